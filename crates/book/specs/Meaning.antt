@@ -1,0 +1,61 @@
+-- What a book of rules means, and the laws that every book keeps.
+use mathlib.Core.Path.{_≡_}
+use mathlib.Core.List.{List}
+use mathlib.Core.Bool.{Bool, true, false}
+use mathlib.Core.Logic.{_↔_}
+use Prim.Native.Nat.{ℕ, _≤_, _<_, _^_}
+use lib.ListN.{length}
+use Rattle.std.specs.shelf.Lists.{Has}
+use Rattle.rows.specs.Rows.{Ascending}
+
+-- The meaning of one book of rules. A fact is a code, a whole number of 64 bits.
+pub record Meaning : Type 1 where
+  -- a world says of each known fact whether it holds
+  pub World : Type 0
+  pub Holds : World → ℕ → Type 0
+  -- whether the book knows a code
+  pub known : ℕ → Bool
+  -- what follows from a fact, in ascending order of codes
+  pub consequences : ℕ → List ℕ
+  -- whether two facts, or one taken twice, clash
+  pub clash : ℕ → ℕ → Bool
+
+-- c follows from a
+abbrev pub Follows : Meaning → ℕ → ℕ → Type 0
+Follows m a c = Has (m .consequences a) c
+
+-- c follows from one of the list
+abbrev pub FollowsFromOne : Meaning → List ℕ → ℕ → Type 0
+FollowsFromOne m l c = (d : ℕ) × Has l d × Follows m d c
+
+-- the book knows each fact of the list
+abbrev pub AllKnown : Meaning → List ℕ → Type 0
+AllKnown m l = (c : ℕ) → Has l c → m .known c ≡ true
+
+-- no two facts of the list clash, and none clashes with itself
+abbrev pub AtPeace : Meaning → List ℕ → Type 0
+AtPeace m l = (a b : ℕ) → Has l a → Has l b → m .clash a b ≡ false
+
+-- The laws of every book. `most` is the kind's own number.
+pub record Lawful (m : Meaning) (most : ℕ) : Type 0 where
+  -- a code that is known has 64 bits
+  pub known-codes-fit : (a : ℕ) → m .known a ≡ true → a < 2 ^ 64
+  -- what follows is listed in ascending order, so each fact once
+  pub consequences-ascend : (a : ℕ) → Ascending (m .consequences a)
+  -- a known fact follows from itself
+  pub itself-follows : (a : ℕ) → m .known a ≡ true → Follows m a a
+  -- only known facts follow, and nothing follows from an unknown code
+  pub only-known-follow : (a c : ℕ) → Follows m a c → (m .known a ≡ true) × (m .known c ≡ true)
+  -- what follows from a following fact follows too
+  pub follows-on : (a b c : ℕ) → Follows m a b → Follows m b c → Follows m a c
+  -- a world that holds a fact holds everything that follows from it
+  pub world-holds-what-follows : (w : m .World) (a c : ℕ) → m .Holds w a → Follows m a c → m .Holds w c
+  -- an unknown code clashes with nothing
+  pub only-known-clash : (a b : ℕ) → m .clash a b ≡ true → (m .known a ≡ true) × (m .known b ≡ true)
+  -- two known facts, or one taken twice, clash exactly when no world holds both
+  pub clash-is-no-common-world : (a b : ℕ) → m .known a ≡ true → m .known b ≡ true → (m .clash a b ≡ true) ↔ ((w : m .World) → m .Holds w a → m .Holds w b → ⊥)
+  -- of known facts in which nothing clashes, some world holds exactly what follows from one of them
+  pub some-world-holds-exactly : (l : List ℕ) → AllKnown m l → AtPeace m l → (w : m .World) × ((c : ℕ) → m .known c ≡ true → m .Holds w c ↔ FollowsFromOne m l c)
+  -- no fact has more consequences than the kind's own number, which is at most 65,536
+  pub at-most-follow : (a : ℕ) → length (m .consequences a) ≤ most
+  pub most-is-small : most ≤ 65536

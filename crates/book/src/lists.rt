@@ -1,0 +1,51 @@
+// What a book says of a list of facts, and what the laws give of it, for every book.
+ghost use mathlib.Core.Logic.{_↔_};
+ghost use mathlib.Core.Path.{_≡_};
+ghost use Rattle.std.specs.Options.{isSome};
+ghost use Rattle.std.specs.Orderings.{Decides};
+ghost use Rattle.std.specs.declared.option.Option.the-variants.{None};
+ghost use Rattle.book.specs.Lists.{FirstUnknown, FirstAgainst, FirstClash, NoWorldHoldsAll, SomeClash, ClashIsSymmetric, CausesClash, ConsequencesAtPeace, ConsequencesAtPeaceWith};
+ghost use Rattle.book.specs.Meaning.{AllKnown};
+use crate::Book;
+
+// The place of the first code that the book does not know, or none where it knows them all.
+pub fn first_unknown<B: Book>(book: &B, facts: &[u64]) -> Option<usize>
+    ensures { λ r. ⌜ FirstUnknown (meaning (now (book .entry))) (now (facts .entry)) r ⌝ }
+{
+    for (i, fact) in facts.iter().enumerate() {
+        if !book.knows(*fact) {
+            return Some(i);
+        }
+    }
+    None
+}
+
+// The place of the first of the facts that clashes with `fact`, or none where none does.
+pub fn first_against<B: Book>(book: &B, facts: &[u64], fact: u64) -> Option<usize>
+    ensures first { λ r. ⌜ FirstAgainst (meaning (now (book .entry))) (now (facts .entry)) fact r ⌝ }
+    ensures symmetric { λ _. ⌜ ClashIsSymmetric (meaning (now (book .entry))) ⌝ }
+    ensures causes_clash { λ _. ⌜ CausesClash (meaning (now (book .entry))) ⌝ }
+    ensures consequences { λ r. ⌜ (r ≡ None → ConsequencesAtPeaceWith (meaning (now (book .entry))) (now (facts .entry)) fact) ⌝ }
+{
+    for (i, other) in facts.iter().enumerate() {
+        if book.clash(*other, fact) {
+            return Some(i);
+        }
+    }
+    None
+}
+
+// The places i ≤ j of the first two facts that clash, or none: the least j, and for it the least i.
+pub fn first_clash<B: Book>(book: &B, facts: &[u64]) -> Option<(usize, usize)>
+    ensures first { λ r. ⌜ FirstClash (meaning (now (book .entry))) (now (facts .entry)) r ⌝ }
+    ensures no_world { λ r. ⌜ (AllKnown (meaning (now (book .entry))) (now (facts .entry)) → Decides (isSome r) (NoWorldHoldsAll (meaning (now (book .entry))) (now (facts .entry)))) ⌝ }
+    ensures some_clash { λ _. ⌜ (AllKnown (meaning (now (book .entry))) (now (facts .entry)) → NoWorldHoldsAll (meaning (now (book .entry))) (now (facts .entry)) ↔ SomeClash (meaning (now (book .entry))) (now (facts .entry))) ⌝ }
+    ensures consequences { λ r. ⌜ (r ≡ None → ConsequencesAtPeace (meaning (now (book .entry))) (now (facts .entry))) ⌝ }
+{
+    for (j, fact) in facts.iter().enumerate() {
+        if let Some(i) = first_against(book, &facts[0..j + 1], *fact) {
+            return Some((i, j));
+        }
+    }
+    None
+}

@@ -1,0 +1,1 @@
+// Ascending rows of numbers: the definitions and lemmas that books and tables share.
