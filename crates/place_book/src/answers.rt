@@ -1,0 +1,159 @@
+// What a book of places answers.
+ghost use mathlib.Core.List.{List};
+ghost use mathlib.Core.Path.{_≡_};
+ghost use Prim.Native.Nat.{ℕ, _≤_, _<_};
+ghost use lib.ListN.{length, getD};
+ghost use Rattle.std.specs.Orderings.{Decides};
+ghost use Rattle.std.specs.shelf.Maps.{nth};
+ghost use Rattle.book.specs.Meaning.{Follows};
+ghost use Rattle.place_book.specs.Places.{ParentOf, Within};
+ghost use Rattle.place_book.specs.Seats.{CodeOf, SeatFollows, ListsFollowing, SeatsClash, within, places-around, consequences, clash, place-meaning};
+ghost use Rattle.place_book.specs.View.{book-places};
+
+use crate::PlaceBook;
+use crate::parent_among;
+use book::Book;
+
+impl PlaceBook {
+    // How many places stand.
+    pub fn count(&self) -> usize
+        ensures { λ r. ⌜ r ≡ length (book-places (now (self .entry))) ⌝ }
+    {
+        self.count
+    }
+
+    // The parent of a place: none for place 0, and for one that does not stand.
+    pub fn parent(&self, place: usize) -> Option<usize>
+        ensures { λ r. ⌜ ParentOf (book-places (now (self .entry))) place r ⌝ }
+    {
+        parent_among(&self.parents, self.count, place)
+    }
+
+    // The code of the fact that the thing is in the place, if the book knows that fact.
+    pub fn fact(&self, thing: u32, place: usize) -> Option<u64>
+        ensures { λ r. ⌜ CodeOf (book-places (now (self .entry))) thing place r ⌝ }
+    {
+        if thing >= 65536 || place >= self.count {
+            return None;
+        }
+        Some(thing as u64 * 256 + place as u64)
+    }
+
+    // Whether the place stands and lies within `outer`.
+    pub fn is_within(&self, place: usize, outer: usize) -> bool
+        ensures { λ r. ⌜ Decides r ((place < length (book-places (now (self .entry)))) × Within (book-places (now (self .entry))) place outer) ⌝ }
+    {
+        place < self.count && self.climbs(place, outer)
+    }
+
+    // The parent of a place that stands and is not the plant.
+    fn up(&self, place: usize) -> usize
+        requires { ⌜ 0 < place ⌝ ∗ ⌜ place < length (book-places (now self)) ⌝ }
+        ensures parent { λ r. ⌜ r ≡ getD (book-places (now (self .entry))) place 0 ⌝ }
+        ensures smaller { λ r. ⌜ r < place ⌝ }
+    {
+        self.parents[place] as usize
+    }
+
+    // Whether a place that stands lies within `outer`: a climb that stops there or above.
+    fn climbs(&self, place: usize, outer: usize) -> bool
+        requires { ⌜ place < length (book-places (now self)) ⌝ }
+        ensures { λ r. ⌜ r ≡ within (book-places (now (self .entry))) place outer ⌝ }
+    {
+        let mut at = place;
+        while at > outer {
+            at = self.up(at);
+        }
+        at == outer
+    }
+
+    // How many places a place that stands lies in, itself and the plant among them.
+    fn depth(&self, place: usize) -> usize
+        requires { ⌜ place < length (book-places (now self)) ⌝ }
+        ensures { λ r. ⌜ r ≡ length (places-around (book-places (now (self .entry))) place) ⌝ }
+    {
+        let mut at = place;
+        let mut count = 1;
+        while at > 0 {
+            at = self.up(at);
+            count += 1;
+        }
+        count
+    }
+
+    // Number `k` of the places that a place lies in, of which there are `depth`, from the plant down.
+    fn ancestor(&self, place: usize, depth: usize, k: usize) -> usize
+        requires stands { ⌜ place < length (book-places (now self)) ⌝ }
+        requires long { ⌜ depth ≡ length (places-around (book-places (now self)) place) ⌝ }
+        requires within { ⌜ k < depth ⌝ }
+        ensures value { λ r. ⌜ r ≡ getD (places-around (book-places (now (self .entry))) place) k 0 ⌝ }
+        ensures bound { λ r. ⌜ r ≤ place ⌝ }
+    {
+        let mut at = place;
+        for _ in k + 1..depth {
+            at = self.up(at);
+        }
+        at
+    }
+}
+
+pub impl Book for PlaceBook as PlaceRules {
+    const MOST_CONSEQUENCES: usize = 256;
+
+    ghost meaning = { λ b. place-meaning (book-places b) };
+
+    ghost most = { 256 };
+
+    fn most_following() -> usize {
+        Self::MOST_CONSEQUENCES
+    }
+
+    fn knows(&self, code: u64) -> bool {
+        (code / 256 < 65536) & (((code % 256) as usize) < self.count)
+    }
+
+    fn follows(&self, cause: u64, fact: u64) -> bool
+        ensures listed { λ r. ⌜ Decides r (Follows (place-meaning (book-places (now (self .entry)))) cause fact) ⌝ }
+        ensures above { λ r. ⌜ Decides r (SeatFollows (book-places (now (self .entry))) cause fact) ⌝ }
+    {
+        if cause / 256 != fact / 256 {
+            return false;
+        }
+        self.knows(cause) & self.is_within((cause % 256) as usize, (fact % 256) as usize)
+    }
+
+    fn clash(&self, first: u64, second: u64) -> bool
+        ensures tested { λ r. ⌜ r ≡ clash (book-places (now (self .entry))) first second ⌝ }
+        ensures apart { λ r. ⌜ Decides r (SeatsClash (book-places (now (self .entry))) first second) ⌝ }
+    {
+        if first / 256 != second / 256 {
+            return false;
+        }
+        let place = (first % 256) as usize;
+        let other = (second % 256) as usize;
+        let nested = self.is_within(place, other) | self.is_within(other, place);
+        self.knows(first) & self.knows(second) & !nested
+    }
+
+    fn count_following(&self, fact: u64) -> usize
+        ensures listed { λ r. ⌜ r ≡ length (consequences (book-places (now (self .entry))) fact) ⌝ }
+        ensures above { λ r. ⌜ ((l : List ℕ) × ListsFollowing (book-places (now (self .entry))) fact l × (r ≡ length l)) ⌝ }
+    {
+        if !self.knows(fact) {
+            return 0;
+        }
+        self.depth((fact % 256) as usize)
+    }
+
+    fn nth_following(&self, fact: u64, k: usize) -> Option<u64>
+        ensures listed { λ r. ⌜ r ≡ nth (consequences (book-places (now (self .entry))) fact) k ⌝ }
+        ensures above { λ r. ⌜ ((l : List ℕ) × ListsFollowing (book-places (now (self .entry))) fact l × (r ≡ nth l k)) ⌝ }
+    {
+        let count = self.count_following(fact);
+        if k >= count {
+            return None;
+        }
+        let place = self.ancestor((fact % 256) as usize, count, k);
+        Some(fact / 256 * 256 + place as u64)
+    }
+}

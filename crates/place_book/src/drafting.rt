@@ -1,0 +1,69 @@
+// Drafts of places: new, one place more, sealed.
+ghost use mathlib.Core.List.{[], _∷_, _++_};
+ghost use mathlib.Core.Path.{_≡_};
+ghost use Prim.Native.Nat.{ℕ, _≤_, _<_};
+ghost use lib.ListN.{length, getD};
+ghost use Rattle.std.specs.Results.{Cases};
+ghost use Rattle.place_book.specs.Places.{ParentOf};
+ghost use Rattle.place_book.specs.Refusals.{Cause};
+ghost use Rattle.place_book.specs.View.{draft-places, book-places};
+
+use crate::Draft;
+use crate::PlaceBook;
+use crate::Refusal;
+use crate::parent_among;
+
+impl Draft {
+    // The plant alone, place 0.
+    pub fn new() -> Self
+        ensures { λ r. ⌜ draft-places r ≡ 0 ∷ [] ⌝ }
+    {
+        Draft {
+            parents: [0; 256],
+            count: 1,
+        }
+    }
+
+    // How many places stand.
+    pub fn count(&self) -> usize
+        ensures { λ r. ⌜ r ≡ length (draft-places (now (self .entry))) ⌝ }
+    {
+        self.count
+    }
+
+    // The parent of a place: none for place 0, and for one that does not stand.
+    pub fn parent(&self, place: usize) -> Option<usize>
+        ensures { λ r. ⌜ ParentOf (draft-places (now (self .entry))) place r ⌝ }
+    {
+        parent_among(&self.parents, self.count, place)
+    }
+
+    // A new place under `parent`: its number, which is the next free one.
+    pub fn add(&mut self, parent: usize) -> Result<usize, Refusal>
+        ensures number { λ r. ⌜ Cases r (λ n. (n ≡ length (draft-places (now (self .entry)))) × (n < 256) × (parent < n)) (Cause (draft-places (now (self .entry))) parent) ⌝ }
+        ensures places { λ r. ⌜ Cases r (λ _. draft-places (now (self .exit)) ≡ draft-places (now (self .entry)) ++ (parent ∷ [])) (λ _. now (self .exit) ≡ now (self .entry)) ⌝ }
+    {
+        let count = self.count;
+        if parent >= count {
+            return Err(Refusal::NoParent(parent));
+        }
+        if count >= 256 {
+            return Err(Refusal::Full);
+        }
+        let mut parents = self.parents;
+        parents[count] = parent as u8;
+        *self = Draft {
+            parents,
+            count: count + 1,
+        };
+        Ok(count)
+    }
+
+    // The book of these places.
+    pub fn seal(self) -> PlaceBook
+        ensures { λ r. ⌜ book-places r ≡ draft-places self ⌝ }
+    {
+        let Draft { parents, count } = self;
+        PlaceBook { parents, count }
+    }
+}
