@@ -18,7 +18,7 @@ use Rattle.rows.proofs.Members.{kept-has, has-kept, counting-has, has-counting,
 use Rattle.rows.proofs.Ascents.{ascending-none, ascending-cons, ascending-counting, ascending-kept, ascending-push, same-rows}
 use Rattle.place_book.specs.Places.{ParentsAreSmaller, Within}
 use Rattle.place_book.specs.Places.Within.{itself, parent}
-use Rattle.place_book.specs.Seats.{within, places-around}
+use Rattle.place_book.specs.Meaning.{within, places-around}
 use Rattle.place_book.proofs.Tree.{within-le, within-up, within-tells}
 
 pub around-ascends : (ps : List ℕ) (p : ℕ) → Ascending (places-around ps p)

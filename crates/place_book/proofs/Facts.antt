@@ -20,7 +20,8 @@ use Rattle.rows.proofs.Ascents.{ascending-none, ascending-map}
 use Rattle.rows.proofs.Members.{has-none, map-has, has-map}
 use Rattle.book.proofs.Peace.{off}
 use Rattle.place_book.specs.Places.{ParentsAreSmaller, Within}
-use Rattle.place_book.specs.Seats.{thing-of, place-of, known, SeatFollows, ListsFollowing, SeatsClash, within, places-around, consequences, clash}
+use Rattle.place_book.specs.Meaning.{within, places-around, consequences, clash}
+use Rattle.place_book.specs.Seats.{thing-of, place-of, known, SeatFollows, ListsFollowing, SeatsClash}
 use Rattle.place_book.proofs.Tree.{within-le, within-tells}
 use Rattle.place_book.proofs.Around.{around-ascends, around-has, has-around}
 

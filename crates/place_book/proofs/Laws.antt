@@ -17,7 +17,8 @@ use Rattle.book.specs.Meaning.{Meaning, Lawful, Follows, FollowsFromOne, AllKno
 use Rattle.book.proofs.Peace.{off}
 use Rattle.place_book.specs.Places.{ParentsAreSmaller, Within}
 use Rattle.place_book.specs.Places.Within.{itself}
-use Rattle.place_book.specs.Seats.{thing-of, place-of, known, World, Holds, SeatFollows, SeatsClash, within, places-around, consequences, clash, place-meaning}
+use Rattle.place_book.specs.Meaning.{within, places-around, consequences, clash, place-meaning}
+use Rattle.place_book.specs.Seats.{thing-of, place-of, known, World, Holds, SeatFollows, SeatsClash}
 use Rattle.place_book.proofs.Tree.{within-trans, within-chain, within-le, within-tells}
 use Rattle.place_book.proofs.Around.{around-few}
 use Rattle.place_book.proofs.Facts.{known-parts, consequences-unknown, has-consequence, consequence-has, follows-known, clash-tells, ascending-consequences, consequences-count}

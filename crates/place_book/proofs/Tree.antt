@@ -13,7 +13,7 @@ use Rattle.std.proofs.shelf.Tests.{cases-lt, eqb-true, eq-eqb, ltb-true, lt-ltb
 use Rattle.std.proofs.shelf.Ways.{same-from-decides, decides-like, decides-eqb}
 use Rattle.place_book.specs.Places.{ParentsAreSmaller, Within}
 use Rattle.place_book.specs.Places.Within.{itself, parent}
-use Rattle.place_book.specs.Seats.{within-by, within}
+use Rattle.place_book.specs.Meaning.{within-by, within}
 
 -- one place more, under a parent that stands
 pub smaller-push : (ps : List ℕ) (q : ℕ) → ParentsAreSmaller ps → q < length ps → ParentsAreSmaller (ps ++ (q ∷ []))

@@ -1,17 +1,15 @@
--- The facts of a place book and what they mean. That thing a is in place p has the code a * 256 + p.
+-- The facts of a place book, and what they mean. That thing a is in place p has the code a * 256 + p.
 use mathlib.Core.Path.{_≡_}
-use mathlib.Core.List.{List, [], map}
-use mathlib.Core.Bool.{Bool, true, cond, not, _&&_, _||_}
+use mathlib.Core.List.{List}
+use mathlib.Core.Bool.{Bool, true, false, _&&_}
 use mathlib.Core.Logic.{_⊎_, _↔_}
-use Prim.Native.Nat.{ℕ, zero, suc, _+_, _*_, _/_, _%_, _≤_, _<_}
-use lib.Dec.{eqb, ltb}
-use lib.ListN.{length, getD}
-use Rattle.std.specs.Iters.{counting}
+use Prim.Native.Nat.{ℕ, _+_, _*_, _/_, _%_, _≤_, _<_}
+use lib.Dec.{ltb}
+use lib.ListN.{length}
 use Rattle.std.specs.declared.option.Option.{Option}
 use Rattle.std.specs.declared.option.Option.the-variants.{Some, None}
-use Rattle.std.specs.shelf.Lists.{Has, kept-by}
+use Rattle.std.specs.shelf.Lists.{Has}
 use Rattle.rows.specs.Rows.{Ascending}
-use Rattle.book.specs.Meaning.{Meaning}
 use Rattle.place_book.specs.Places.{Within}
 
 -- the thing and the place that a code names
@@ -29,6 +27,11 @@ known ps c = ltb (thing-of c) 65536 && ltb (place-of c) (length ps)
 abbrev pub CodeOf : List ℕ → ℕ → ℕ → Option ℕ → Type 0
 CodeOf ps a p None = (65536 ≤ a) ⊎ (length ps ≤ p)
 CodeOf ps a p (Some c) = (a < 65536) × (p < length ps) × (c ≡ a * 256 + p)
+
+-- the thing and the place of a known fact; none where the code is not known
+abbrev pub SeatOf : List ℕ → ℕ → Option (ℕ × ℕ) → Type 0
+SeatOf ps c None = known ps c ≡ false
+SeatOf ps c (Some s) = CodeOf ps (s .0) (s .1) (Some c)
 
 -- A world seats each thing at one place, or nowhere.
 pub record World (ps : List ℕ) : Type 0 where
@@ -57,25 +60,3 @@ pub record SeatsClash (ps : List ℕ) (a b : ℕ) : Type 0 where
   pub same-thing : thing-of a ≡ thing-of b
   pub not-within : Within ps (place-of a) (place-of b) → ⊥
   pub not-around : Within ps (place-of b) (place-of a) → ⊥
-
--- The test of `Within` in at most n steps; a place has fewer above it than its number.
-abbrev pub within-by : List ℕ → ℕ → ℕ → ℕ → Bool
-within-by ps zero p q = eqb p q
-within-by ps (suc n) p q = eqb p q || (ltb 0 p && within-by ps n (getD ps p 0) q)
-
-abbrev pub within : List ℕ → ℕ → ℕ → Bool
-within ps p q = within-by ps p p q
-
--- the places in which p lies, ascending
-abbrev pub places-around : List ℕ → ℕ → List ℕ
-places-around ps p = kept-by (within ps p) (counting 0 (length ps))
-
--- The meaning of the book of these places. Its tests tell exactly `SeatFollows` and `SeatsClash`.
-abbrev pub consequences : List ℕ → ℕ → List ℕ
-consequences ps c = cond (known ps c) (map (λ q. thing-of c * 256 + q) (places-around ps (place-of c))) []
-
-abbrev pub clash : List ℕ → ℕ → ℕ → Bool
-clash ps a b = (known ps a && known ps b) && (eqb (thing-of a) (thing-of b) && (not (within ps (place-of a) (place-of b)) && not (within ps (place-of b) (place-of a))))
-
-abbrev pub place-meaning : List ℕ → Meaning
-place-meaning ps = record { World = World ps; Holds = Holds ps; known = known ps; consequences = consequences ps; clash = clash ps }

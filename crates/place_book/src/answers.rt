@@ -7,7 +7,8 @@ ghost use Rattle.std.specs.Orderings.{Decides};
 ghost use Rattle.std.specs.shelf.Maps.{nth};
 ghost use Rattle.book.specs.Meaning.{Follows};
 ghost use Rattle.place_book.specs.Places.{ParentOf, Within};
-ghost use Rattle.place_book.specs.Seats.{CodeOf, SeatFollows, ListsFollowing, SeatsClash, within, places-around, consequences, clash, place-meaning};
+ghost use Rattle.place_book.specs.Meaning.{within, places-around, consequences, clash, place-meaning};
+ghost use Rattle.place_book.specs.Seats.{CodeOf, SeatOf, SeatFollows, ListsFollowing, SeatsClash};
 ghost use Rattle.place_book.specs.View.{book-places};
 
 use crate::PlaceBook;
@@ -37,6 +38,16 @@ impl PlaceBook {
             return None;
         }
         Some(thing as u64 * 256 + place as u64)
+    }
+
+    // The thing and the place of a fact that the book knows.
+    pub fn seat(&self, fact: u64) -> Option<(u32, usize)>
+        ensures { λ r. ⌜ SeatOf (book-places (now (self .entry))) fact r ⌝ }
+    {
+        if !self.knows(fact) {
+            return None;
+        }
+        Some(((fact / 256) as u32, (fact % 256) as usize))
     }
 
     // Whether the place stands and lies within `outer`.

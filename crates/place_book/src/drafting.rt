@@ -5,7 +5,7 @@ ghost use Prim.Native.Nat.{ℕ, _≤_, _<_};
 ghost use lib.ListN.{length, getD};
 ghost use Rattle.std.specs.Results.{Cases};
 ghost use Rattle.place_book.specs.Places.{ParentOf};
-ghost use Rattle.place_book.specs.Refusals.{Cause};
+ghost use Rattle.place_book.specs.Refusals.{Refused};
 ghost use Rattle.place_book.specs.View.{draft-places, book-places};
 
 use crate::Draft;
@@ -40,7 +40,7 @@ impl Draft {
 
     // A new place under `parent`: its number, which is the next free one.
     pub fn add(&mut self, parent: usize) -> Result<usize, Refusal>
-        ensures number { λ r. ⌜ Cases r (λ n. (n ≡ length (draft-places (now (self .entry)))) × (n < 256) × (parent < n)) (Cause (draft-places (now (self .entry))) parent) ⌝ }
+        ensures number { λ r. ⌜ Cases r (λ n. (n ≡ length (draft-places (now (self .entry)))) × (n < 256) × (parent < n)) (Refused (draft-places (now (self .entry))) parent) ⌝ }
         ensures places { λ r. ⌜ Cases r (λ _. draft-places (now (self .exit)) ≡ draft-places (now (self .entry)) ++ (parent ∷ [])) (λ _. now (self .exit) ≡ now (self .entry)) ⌝ }
     {
         let count = self.count;

@@ -8,6 +8,7 @@ mod drafting;
 mod refusals;
 pub use answers::PlaceRules;
 pub use refusals::Refusal;
+pub use refusals::RefusalDisplay;
 
 // Places that are still being added. Place 0, the plant, always stands.
 #[derive(Drop)]

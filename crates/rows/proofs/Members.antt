@@ -7,11 +7,14 @@ use Prim.Native.Nat.{ℕ, zero, suc, _+_, _-_, _≤_, _<_}
 use native.Mathlib.Omega.{arith}
 use lib.ListN.{length, getD}
 use Rattle.std.specs.Iters.{counting}
+use Rattle.std.specs.declared.option.Option.the-variants.{Some, None}
 use Rattle.std.specs.shelf.Lists.{Has, At, kept-by}
+use Rattle.std.specs.shelf.Maps.{nth}
 use Rattle.std.proofs.shelf.Counted.{length-counting, getD-counting}
 use Rattle.std.proofs.shelf.Elements.{all-has, all-has-itself, all-kept-by, kept-by-passes}
 use Rattle.std.proofs.shelf.Lists.{length-map, getD-map, getD-default}
-use Rattle.std.proofs.shelf.Tests.{cases-bool, both-ways}
+use Rattle.std.proofs.shelf.Maps.{nth-getD, nth-past}
+use Rattle.std.proofs.shelf.Tests.{cases-bool, cases-lt, both-ways}
 
 -- what holds at each place holds of each member
 pub each-member : (P : ℕ → Type 0) (xs : List ℕ) → ((k : ℕ) → k < length xs → P (getD xs k 0)) → (c : ℕ) → Has xs c → P c
@@ -64,3 +67,16 @@ pub has-counting : (a n c : ℕ) → a ≤ c → c < a + n → Has (counting a n
 has-counting a n c low high =
     let k : c - a < n = omega arith in
     (c - a, omega (arith, length-counting a n), λ d. getD-counting a n (c - a) d k ∙ omega arith)
+
+-- number k of a row, or none past its end
+pub nth-some : {c : ℕ} (xs : List ℕ) (k : ℕ) → nth xs k ≡ Some c → (k < length xs) × (getD xs k 0 ≡ c)
+nth-some {c} xs k e = elim (cases-lt k (length xs)) [
+  | inl lt ↦ let found = nth-getD xs k 0 lt in (lt, cc)
+  | inr ge ↦ let past = nth-past xs k ge in let z : _≡_ {A = ℕ} 0 1 = cc in absurd (omega arith)
+]
+
+pub nth-none : (xs : List ℕ) (k : ℕ) → nth xs k ≡ None → length xs ≤ k
+nth-none xs k e = elim (cases-lt k (length xs)) [
+  | inl lt ↦ let found = nth-getD xs k 0 lt in let z : _≡_ {A = ℕ} 0 1 = cc in absurd (omega arith)
+  | inr ge ↦ ge
+]

@@ -2,7 +2,7 @@ use mathlib.Core.Path.{_≡_, refl, sym, ap, _∙_}
 use native.Mathlib.Omega.{arith}
 use Prim.Native.Nat.{_+_, _<_}
 use lib.ListN.{length, getD, take}
-use Rattle.place_book.specs.Seats.{places-around}
+use Rattle.place_book.specs.Meaning.{places-around}
 use Rattle.place_book.proofs.Around.{around-many, around-length, around-keeps, around-last}
 use Rattle.place_book.proofs.PlaceBook.ancestor.Needs as need
 

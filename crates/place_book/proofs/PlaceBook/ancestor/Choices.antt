@@ -1,7 +1,7 @@
 use mathlib.Core.Path.{_≡_}
 use Prim.Native.Nat.{_+_, _≤_, _<_}
 use lib.ListN.{length, getD, take}
-use Rattle.place_book.specs.Seats.{places-around}
+use Rattle.place_book.specs.Meaning.{places-around}
 use Rattle.place_book.proofs.PlaceBook.ancestor.Given as given
 
 -- the place reached stands, lies in one place less for each turn, and number k of them is the same

@@ -1,7 +1,7 @@
 use mathlib.Core.Path.{_≡_, sym, ap, _∙_}
 use native.Mathlib.Omega.{arith}
 use lib.ListN.{take}
-use Rattle.place_book.specs.Seats.{within}
+use Rattle.place_book.specs.Meaning.{within}
 use Rattle.place_book.proofs.Tree.{climb-step, climb-end}
 use Rattle.place_book.proofs.PlaceBook.climbs.Needs as need
 

@@ -1,7 +1,7 @@
 use mathlib.Core.Path.{_≡_}
 use Prim.Native.Nat.{_<_}
 use lib.ListN.{length, take}
-use Rattle.place_book.specs.Seats.{within}
+use Rattle.place_book.specs.Meaning.{within}
 use Rattle.place_book.proofs.PlaceBook.climbs.Given as given
 
 -- the place reached stands, and tells the same as the one begun at

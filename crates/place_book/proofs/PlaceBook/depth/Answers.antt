@@ -3,7 +3,7 @@ use native.Mathlib.Omega.{arith}
 use Prim.Native.Nat.{_+_}
 use lib.ListN.{length, getD, take}
 use Rattle.std.proofs.shelf.Lists.{length-take}
-use Rattle.place_book.specs.Seats.{places-around}
+use Rattle.place_book.specs.Meaning.{places-around}
 use Rattle.place_book.proofs.Around.{around-few, around-length, around-one}
 use Rattle.place_book.proofs.PlaceBook.depth.Needs as need
 

@@ -1,7 +1,7 @@
 use mathlib.Core.Path.{_≡_}
 use Prim.Native.Nat.{_+_, _<_}
 use lib.ListN.{length, take}
-use Rattle.place_book.specs.Seats.{places-around}
+use Rattle.place_book.specs.Meaning.{places-around}
 use Rattle.place_book.proofs.PlaceBook.depth.Given as given
 
 -- the place reached stands, and each place left behind is counted

@@ -1,0 +1,30 @@
+-- The lines that the program prints.
+use mathlib.Core.List.{List, [], _∷_, _++_}
+use mathlib.Core.Bool.{Bool, true, false}
+use Prim.Native.Nat.{ℕ}
+use lib.Chars.{codes}
+use lib.ListN.{length}
+use Rattle.std.specs.Written.{decimal}
+use Rattle.std.specs.declared.result.Result.{Result}
+use Rattle.std.specs.declared.result.Result.the-variants.{Ok, Err}
+use Rattle.place_book.specs.Printed.{refusal-text}
+use Rattle.place_book.specs.declared.refusals.Refusal.{Refusal}
+
+-- the number of a new place, as `place 1`, or the refusal
+abbrev pub added-text : Result ℕ Refusal → List ℕ
+added-text (Ok n) = codes "place " ++ decimal n
+added-text (Err e) = refusal-text e
+
+-- each fact on a line of its own
+abbrev pub fact-lines : List ℕ → List ℕ
+fact-lines [] = []
+fact-lines (c ∷ cs) = decimal c ++ (codes "\n" ++ fact-lines cs)
+
+-- the facts, and then their number, as `end 3`
+abbrev pub listing-text : List ℕ → List ℕ
+listing-text cs = fact-lines cs ++ (codes "end " ++ decimal (length cs))
+
+-- whether two facts clash
+abbrev pub clash-text : ℕ → ℕ → Bool → List ℕ
+clash-text a b true = decimal a ++ (codes " and " ++ (decimal b ++ codes " clash"))
+clash-text a b false = decimal a ++ (codes " and " ++ (decimal b ++ codes " do not clash"))
