@@ -8,7 +8,9 @@ mod drafting;
 mod refusals;
 pub use answers::PlaceRules;
 pub use refusals::Refusal;
+pub use refusals::RefusalDebug;
 pub use refusals::RefusalDisplay;
+pub use refusals::RefusalPartialEq;
 
 // Places that are still being added. Place 0, the plant, always stands.
 #[derive(Drop)]

@@ -69,13 +69,13 @@ has-counting a n c low high =
     (c - a, omega (arith, length-counting a n), λ d. getD-counting a n (c - a) d k ∙ omega arith)
 
 -- number k of a row, or none past its end
-pub nth-some : {c : ℕ} (xs : List ℕ) (k : ℕ) → nth xs k ≡ Some c → (k < length xs) × (getD xs k 0 ≡ c)
+pub nth-some : {c : ℕ} (xs : List ℕ) (k : ℕ) → Some c ≡ nth xs k → (k < length xs) × (getD xs k 0 ≡ c)
 nth-some {c} xs k e = elim (cases-lt k (length xs)) [
   | inl lt ↦ let found = nth-getD xs k 0 lt in (lt, cc)
   | inr ge ↦ let past = nth-past xs k ge in let z : _≡_ {A = ℕ} 0 1 = cc in absurd (omega arith)
 ]
 
-pub nth-none : (xs : List ℕ) (k : ℕ) → nth xs k ≡ None → length xs ≤ k
+pub nth-none : (xs : List ℕ) (k : ℕ) → None ≡ nth xs k → length xs ≤ k
 nth-none xs k e = elim (cases-lt k (length xs)) [
   | inl lt ↦ let found = nth-getD xs k 0 lt in let z : _≡_ {A = ℕ} 0 1 = cc in absurd (omega arith)
   | inr ge ↦ ge

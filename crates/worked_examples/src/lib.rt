@@ -1,0 +1,3 @@
+// Examples with their sums done by hand.
+#[cfg(test)]
+mod places;
