@@ -1,6 +1,6 @@
 -- What the laws give of clashes, for every book.
-use mathlib.Core.Path.{_≡_, refl, sym, _∙_}
-use mathlib.Core.List.{List}
+use mathlib.Core.Path.{_≡_, refl, sym, subst, _∙_}
+use mathlib.Core.List.{List, [], _∷_}
 use mathlib.Core.Bool.{Bool, true, false}
 use mathlib.Core.Logic.{_⊎_, inl, inr, _↔_}
 use Prim.Native.Nat.{ℕ, _+_, _-_, _≤_, _<_}
@@ -14,7 +14,7 @@ use Rattle.std.specs.shelf.Lists.{Has}
 use Rattle.std.proofs.shelf.Elements.{has-getD}
 use Rattle.std.proofs.shelf.Lists.{getD-take, length-take-le}
 use Rattle.std.proofs.shelf.Tests.{both-ways, cases-lt}
-use Rattle.rows.proofs.Members.{each-member}
+use Rattle.rows.proofs.Members.{each-member, has-head, has-one}
 use Rattle.book.specs.Meaning.{Meaning, Lawful, Follows, FollowsFromOne, AllKnown, AtPeace}
 use Rattle.book.specs.Lists.{FirstAgainst, FirstClash, NoWorldHoldsAll, SomeClash, ClashIsSymmetric, CausesClash, ConsequencesAtPeace, ConsequencesAtPeaceWith}
 
@@ -81,6 +81,19 @@ module _ (m : Meaning) (most : ℕ) (law : Lawful m most) where
   pub no-world-is-a-clash : (l : List ℕ) (r : Option (ℕ × ℕ)) → FirstClash m l r → AllKnown m l → NoWorldHoldsAll m l ↔ SomeClash m l
   no-world-is-a-clash l None f known = ((λ nowhere. absurd (peaceful-world l known f nowhere)), clash-nowhere l known)
   no-world-is-a-clash l (Some p) f known = ((λ nowhere. found l p f), clash-nowhere l known)
+
+  follows-from-it : (a c : ℕ) → FollowsFromOne m (a ∷ []) c → Follows m a c
+  follows-from-it a c f = subst (λ d. Follows m d c) (sym (has-one a (f .1))) (f .2)
+
+  -- of a fact that does not clash with itself, what follows is what every world that holds it holds
+  pub follows-by-worlds : (a c : ℕ) → m .known a ≡ true → m .known c ≡ true → m .clash a a ≡ false → Follows m a c ↔ ((w : m .World) → m .Holds w a → m .Holds w c)
+  follows-by-worlds a c known-a known-c none =
+      ((λ f w h. law .world-holds-what-follows w a c h f),
+      λ every.
+      let known : AllKnown m (a ∷ []) = λ d h. subst (λ x. m .known x ≡ true) (has-one a h) known-a in
+      let peace : AtPeace m (a ∷ []) = λ x y hx hy. subst (λ z. m .clash z y ≡ false) (has-one a hx) (subst (λ z. m .clash a z ≡ false) (has-one a hy) none) in
+      let w = law .some-world-holds-exactly (a ∷ []) known peace in
+      follows-from-it a c (w .1 c known-c .0 (every (w .0) (w .1 a known-a .1 (a, has-head a [], law .itself-follows a known-a)))))
 
   -- places in order are enough, since a clash is symmetric
   pub peace-by-places : (l : List ℕ) → ((i j : ℕ) → i ≤ j → j < length l → m .clash (getD l i 0) (getD l j 0) ≡ false) → AtPeace m l

@@ -3,7 +3,6 @@ ghost use mathlib.Core.Path.{_≡_};
 ghost use Rattle.std.specs.Of.String.{string-bytes};
 ghost use Rattle.std.specs.Vec.{made};
 ghost use Rattle.console.specs.Lines.{added-text, listing-text, clash-text};
-
 use book::Book;
 use place_book::Refusal;
 use place_book::RefusalDisplay;
@@ -36,7 +35,12 @@ pub fn following<B: Book>(heap: Global, book: &B, fact: u64) -> Result<String, f
 }
 
 // Whether the two facts clash.
-pub fn clash_of<B: Book>(heap: Global, book: &B, first: u64, second: u64) -> Result<String, AllocError>
+pub fn clash_of<B: Book>(
+    heap: Global,
+    book: &B,
+    first: u64,
+    second: u64,
+) -> Result<String, AllocError>
     ensures { λ r. ⌜ made r (λ s. string-bytes s ≡ clash-text first second (meaning (now (book .entry)) .clash first second)) ⌝ }
 {
     if book.clash(first, second) {

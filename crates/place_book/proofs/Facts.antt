@@ -108,13 +108,14 @@ module _ (ps : List ℕ) (smaller : ParentsAreSmaller ps) where
   StandsWithin a b = (place-of a < length ps) × Within ps (place-of a) (place-of b)
 
   pub follows-answer : (a c : ℕ) (w : Bool) → thing-of a ≡ thing-of c → Decides w (StandsWithin a c) → Decides (known ps a && w) (SeatFollows ps a c)
-  follows-answer a c w e tells =
-      ((λ t. let both = and-parts (known ps a) w t in record { known-cause = both .0; same-thing = sym e; within = tells .0 (both .1) .1 }),
-      λ f. and-from (known ps a) w (f .known-cause) (tells .1 (known-parts ps a (f .known-cause) .1, f .within)))
+  follows-answer a c w e tells = (
+    (λ t. let both = and-parts (known ps a) w t in record { known-cause = both .0; same-thing = sym e; within = tells .0 (both .1) .1 }),
+    λ f. and-from (known ps a) w (f .known-cause) (tells .1 (known-parts ps a (f .known-cause) .1, f .within)),
+  )
 
   pub clash-answer : (a b : ℕ) (w v : Bool) → thing-of a ≡ thing-of b → Decides w (StandsWithin a b) → Decides v (StandsWithin b a) → Decides ((known ps a && known ps b) && not (w || v)) (SeatsClash ps a b)
-  clash-answer a b w v e inner outer =
-      ((λ t.
+  clash-answer a b w v e inner outer = (
+    (λ t.
         let both = and-parts (known ps a && known ps b) _ t in
         let knows = and-parts (known ps a) (known ps b) (both .0) in
         let neither = or-parts w v (not-true _ (both .1)) in
@@ -125,8 +126,9 @@ module _ (ps : List ℕ) (smaller : ParentsAreSmaller ps) where
           not-within = λ u. not-from-decides w inner (neither .0) (known-parts ps a (knows .0) .1, u);
           not-around = λ u. not-from-decides v outer (neither .1) (known-parts ps b (knows .1) .1, u);
         }),
-      λ s. and-from (known ps a && known ps b) _ (and-from (known ps a) (known ps b) (s .first-known) (s .second-known))
-        (not-from-false _ (or-from w v (off w (λ t. s .not-within (inner .0 t .1))) (off v (λ t. s .not-around (outer .0 t .1))))))
+    λ s. and-from (known ps a && known ps b) _ (and-from (known ps a) (known ps b) (s .first-known) (s .second-known))
+        (not-from-false _ (or-from w v (off w (λ t. s .not-within (inner .0 t .1))) (off v (λ t. s .not-around (outer .0 t .1))))),
+  )
 
   -- the list tells the same
   pub listed : (a c : ℕ) (r : Bool) → Decides r (SeatFollows ps a c) → Decides r (Has (consequences ps a) c)

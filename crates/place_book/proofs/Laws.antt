@@ -7,18 +7,19 @@ use Prim.Native.Nat.{ℕ, _+_, _*_, _/_, _%_, _^_, _≤_, _<_, max}
 use native.Mathlib.Omega.{arith}
 use lib.Dec.{eqb}
 use lib.ListN.{length}
+use Rattle.std.specs.Orderings.{Decides}
 use Rattle.std.specs.declared.option.Option.{Option}
 use Rattle.std.specs.declared.option.Option.the-variants.{Some, None}
 use Rattle.std.specs.shelf.Lists.{Has}
 use Rattle.std.proofs.shelf.Tests.{cases-bool, both-ways, eqb-true, eq-eqb, ne-eqb, cond-true, cond-false, cases-eq}
-use Rattle.std.proofs.shelf.Ways.{not-from-decides}
+use Rattle.std.proofs.shelf.Ways.{not-from-decides, decides-at, decides-like}
 use Rattle.rows.proofs.Members.{has-none, has-head, has-tail, has-cases}
 use Rattle.book.specs.Meaning.{Meaning, Lawful, Follows, FollowsFromOne, AllKnown, AtPeace}
-use Rattle.book.proofs.Peace.{off}
+use Rattle.book.proofs.Peace.{off, follows-by-worlds}
 use Rattle.place_book.specs.Places.{ParentsAreSmaller, Within}
 use Rattle.place_book.specs.Places.Within.{itself}
 use Rattle.place_book.specs.Meaning.{within, places-around, consequences, clash, place-meaning}
-use Rattle.place_book.specs.Seats.{thing-of, place-of, known, World, Holds, SeatFollows, SeatsClash}
+use Rattle.place_book.specs.Seats.{thing-of, place-of, known, World, Holds, SeatFollows, SeatsClash, EveryWorldAgrees, NoWorldHoldsBoth}
 use Rattle.place_book.proofs.Tree.{within-trans, within-chain, within-le, within-tells}
 use Rattle.place_book.proofs.Around.{around-few}
 use Rattle.place_book.proofs.Facts.{known-parts, consequences-unknown, has-consequence, consequence-has, follows-known, clash-tells, ascending-consequences, consequences-count}
@@ -122,12 +123,12 @@ module _ (ps : List ℕ) (smaller : ParentsAreSmaller ps) where
               let same : place-of a ≡ place-of b = omega (arith, within-le ps smaller u) in
               subst (λ x. Within ps (place-of a) x) same itself
           | inr g ↦ absurd (both-ways _ none (clash-tells ps smaller a b .1 (record {
-              first-known = ka;
-              second-known = kb;
-              same-thing = e;
-              not-within = not-from-decides _ tells f;
-              not-around = not-from-decides _ around g;
-            })))
+            first-known = ka;
+            second-known = kb;
+            same-thing = e;
+            not-within = not-from-decides _ tells f;
+            not-around = not-from-decides _ around g;
+          })))
         ]
       ]
 
@@ -137,12 +138,15 @@ module _ (ps : List ℕ) (smaller : ParentsAreSmaller ps) where
     where
       to : Holds ps (world-of l k) c → FollowsFromOne m l c
       to h =
-          let n = seat-named l (thing-of c) (h .0) (h .1) in
-          (n .0, n .1, has-consequence ps smaller (n .0) c (record {
-            known-cause = k (n .0) (n .1);
-            same-thing = sym (n .2);
-            within = subst (λ x. Within ps x (place-of c)) (sym (n .3)) (h .2);
-          }))
+          let n = seat-named l (thing-of c) (h .0) (h .1) in (
+            n .0,
+            n .1,
+            has-consequence ps smaller (n .0) c (record {
+              known-cause = k (n .0) (n .1);
+              same-thing = sym (n .2);
+              within = subst (λ x. Within ps x (place-of c)) (sym (n .3)) (h .2);
+            }),
+          )
 
       from : FollowsFromOne m l c → Holds ps (world-of l k) c
       from f =
@@ -215,3 +219,12 @@ module _ (ps : List ℕ) (smaller : ParentsAreSmaller ps) where
     at-most-follow = few small;
     most-is-small = omega arith;
   }
+
+  -- the answers by worlds
+  pub follows-in-worlds : length ps ≤ 256 → (a c : ℕ) (r : Bool) → Decides r (Has (consequences ps a) c) → known ps a ≡ true → known ps c ≡ true → Decides r (EveryWorldAgrees ps a c)
+  follows-in-worlds small a c r tells ka kc =
+      let same = follows-by-worlds m 256 (place-book-lawful small) a c ka kc (clash-itself a) in
+      decides-like r (same .0) (same .1) tells
+
+  pub clash-in-worlds : (a b : ℕ) (r : Bool) → r ≡ clash ps a b → known ps a ≡ true → known ps b ≡ true → Decides r (NoWorldHoldsBoth ps a b)
+  clash-in-worlds a b r e ka kb = decides-at r (clash ps a b) e (clash-nowhere a b, nowhere-clash a b ka kb)

@@ -6,14 +6,17 @@ use mathlib.Core.Logic.{_⊎_, inl, inr}
 use Prim.Native.Nat.{ℕ, zero, suc, _≤_, _<_}
 use native.Mathlib.Omega.{arith}
 use lib.Dec.{eqb, ltb}
-use lib.ListN.{length, getD}
+use lib.ListN.{length, getD, take}
 use Rattle.std.specs.Orderings.{Decides}
-use Rattle.std.proofs.shelf.Lists.{length-push, getD-push, getD-append-left}
+use Rattle.std.proofs.shelf.Lists.{length-take, length-push, getD-push, getD-append-left}
 use Rattle.std.proofs.shelf.Tests.{cases-lt, eqb-true, eq-eqb, ltb-true, lt-ltb, or-cases, or-left, or-right, and-parts, and-from}
 use Rattle.std.proofs.shelf.Ways.{same-from-decides, decides-like, decides-eqb}
 use Rattle.place_book.specs.Places.{ParentsAreSmaller, Within}
 use Rattle.place_book.specs.Places.Within.{itself, parent}
 use Rattle.place_book.specs.Meaning.{within-by, within}
+
+pub few-places : (n : ℕ) (parents : List ℕ) → n ≤ 256 → length (take n parents) ≤ 256
+few-places n parents few = omega (arith, length-take n parents)
 
 -- one place more, under a parent that stands
 pub smaller-push : (ps : List ℕ) (q : ℕ) → ParentsAreSmaller ps → q < length ps → ParentsAreSmaller (ps ++ (q ∷ []))

@@ -42,6 +42,14 @@ pub record World (ps : List ℕ) : Type 0 where
 abbrev pub Holds : (ps : List ℕ) → World ps → ℕ → Type 0
 Holds ps w c = (s : ℕ) × (w .seat (thing-of c) ≡ Some s) × Within ps s (place-of c)
 
+-- every world that holds the first fact holds the second
+abbrev pub EveryWorldAgrees : List ℕ → ℕ → ℕ → Type 0
+EveryWorldAgrees ps a c = (w : World ps) → Holds ps w a → Holds ps w c
+
+-- no world holds both facts
+abbrev pub NoWorldHoldsBoth : List ℕ → ℕ → ℕ → Type 0
+NoWorldHoldsBoth ps a b = (w : World ps) → Holds ps w a → Holds ps w b → ⊥
+
 -- from a known fact follows that the same thing is in the same place or in one above it
 pub record SeatFollows (ps : List ℕ) (a c : ℕ) : Type 0 where
   pub known-cause : known ps a ≡ true

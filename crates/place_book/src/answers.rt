@@ -1,4 +1,5 @@
 // What a book of places answers.
+ghost use mathlib.Core.Bool.{true};
 ghost use mathlib.Core.List.{List};
 ghost use mathlib.Core.Path.{_≡_};
 ghost use Prim.Native.Nat.{ℕ, _≤_, _<_};
@@ -8,9 +9,8 @@ ghost use Rattle.std.specs.shelf.Maps.{nth};
 ghost use Rattle.book.specs.Meaning.{Follows};
 ghost use Rattle.place_book.specs.Places.{ParentOf, Within};
 ghost use Rattle.place_book.specs.Meaning.{within, places-around, consequences, clash, place-meaning};
-ghost use Rattle.place_book.specs.Seats.{CodeOf, SeatOf, SeatFollows, ListsFollowing, SeatsClash};
+ghost use Rattle.place_book.specs.Seats.{known, CodeOf, SeatOf, SeatFollows, ListsFollowing, SeatsClash, EveryWorldAgrees, NoWorldHoldsBoth};
 ghost use Rattle.place_book.specs.View.{book-places};
-
 use crate::PlaceBook;
 use crate::parent_among;
 use book::Book;
@@ -126,6 +126,7 @@ pub impl Book for PlaceBook as PlaceRules {
     fn follows(&self, cause: u64, fact: u64) -> bool
         ensures listed { λ r. ⌜ Decides r (Follows (place-meaning (book-places (now (self .entry)))) cause fact) ⌝ }
         ensures above { λ r. ⌜ Decides r (SeatFollows (book-places (now (self .entry))) cause fact) ⌝ }
+        ensures worlds { λ r. ⌜ (known (book-places (now (self .entry))) cause ≡ true → known (book-places (now (self .entry))) fact ≡ true → Decides r (EveryWorldAgrees (book-places (now (self .entry))) cause fact)) ⌝ }
     {
         if cause / 256 != fact / 256 {
             return false;
@@ -136,6 +137,7 @@ pub impl Book for PlaceBook as PlaceRules {
     fn clash(&self, first: u64, second: u64) -> bool
         ensures tested { λ r. ⌜ r ≡ clash (book-places (now (self .entry))) first second ⌝ }
         ensures apart { λ r. ⌜ Decides r (SeatsClash (book-places (now (self .entry))) first second) ⌝ }
+        ensures worlds { λ r. ⌜ (known (book-places (now (self .entry))) first ≡ true → known (book-places (now (self .entry))) second ≡ true → Decides r (NoWorldHoldsBoth (book-places (now (self .entry))) first second)) ⌝ }
     {
         if first / 256 != second / 256 {
             return false;

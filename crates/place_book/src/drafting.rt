@@ -7,7 +7,6 @@ ghost use Rattle.std.specs.Results.{Cases};
 ghost use Rattle.place_book.specs.Places.{ParentOf};
 ghost use Rattle.place_book.specs.Refusals.{Refused};
 ghost use Rattle.place_book.specs.View.{draft-places, book-places};
-
 use crate::Draft;
 use crate::PlaceBook;
 use crate::Refusal;

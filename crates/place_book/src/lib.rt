@@ -6,6 +6,7 @@ ghost use Rattle.place_book.specs.Places.{ParentsAreSmaller, ParentOf};
 mod answers;
 mod drafting;
 mod refusals;
+
 pub use answers::PlaceRules;
 pub use refusals::Refusal;
 pub use refusals::RefusalDebug;

@@ -3,7 +3,6 @@ ghost use mathlib.Core.Path.{_≡_};
 ghost use Rattle.std.specs.declared.option.Option.the-variants.{Some};
 ghost use Rattle.place_book.specs.Refusals.{number-of, returned-by};
 ghost use Rattle.place_book.specs.Printed.{refusal-text};
-
 use std::fmt;
 
 #[derive(Clone, Copy, PartialEq, Eq, Debug)]

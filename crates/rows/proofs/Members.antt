@@ -36,6 +36,9 @@ has-at x c xs (suc k) h at = inr (k, omega arith, at)
 pub has-cases : {c : ℕ} (x : ℕ) (xs : List ℕ) → Has (x ∷ xs) c → (x ≡ c) ⊎ Has xs c
 has-cases {c} x xs h = has-at x c xs (h .0) (h .1) (h .2)
 
+pub has-one : {c : ℕ} (x : ℕ) → Has (x ∷ []) c → x ≡ c
+has-one x h = elim (has-cases x [] h) [ inl e ↦ e | inr r ↦ absurd (has-none r) ]
+
 module _ (p : ℕ → Bool) where
   pub kept-has : (xs : List ℕ) (c : ℕ) → Has (kept-by p xs) c → Has xs c × (p c ≡ true)
   kept-has xs c h = (all-has (Has xs) (kept-by p xs) c (all-kept-by p (Has xs) xs (all-has-itself xs)) h, all-has (λ x. p x ≡ true) (kept-by p xs) c (kept-by-passes p xs) h)

@@ -19,11 +19,12 @@ loop-again c =
     let inv = c .loop .inv in
     let more : 0 < at = around-many ps (b .smaller) at (inv .0) (omega (arith, inv .1, c .loop-test .taken)) in
     let up = c .up-at .ensures .parent in
-    let less = around-length ps (b .smaller) at more (inv .0) in
-    (omega (arith, inv .0, c .up-at .ensures .smaller),
-    omega (arith, ap (λ p. length (places-around ps p)) up, less, inv .1),
-    ap (λ p. getD (places-around ps p) (c .args .k) 0) up ∙ sym (around-keeps ps (b .smaller) at (c .args .k) more (inv .0) (omega (arith, less, inv .1, c .loop-test .taken))) ∙ inv .2,
-    omega (arith, inv .3, c .up-at .ensures .smaller))
+    let less = around-length ps (b .smaller) at more (inv .0) in (
+      omega (arith, inv .0, c .up-at .ensures .smaller),
+      omega (arith, ap (λ p. length (places-around ps p)) up, less, inv .1),
+      ap (λ p. getD (places-around ps p) (c .args .k) 0) up ∙ sym (around-keeps ps (b .smaller) at (c .args .k) more (inv .0) (omega (arith, less, inv .1, c .loop-test .taken))) ∙ inv .2,
+      omega (arith, inv .3, c .up-at .ensures .smaller),
+    )
 
 pub returns : need.returns
 returns c =
