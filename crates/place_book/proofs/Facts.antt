@@ -1,7 +1,7 @@
 -- The tests of the meaning tell exactly what follows and what clashes.
 use mathlib.Core.Path.{_≡_, refl, sym, ap, subst, _∙_}
 use mathlib.Core.List.{List, [], map}
-use mathlib.Core.Bool.{Bool, true, false, not, _&&_, _||_}
+use mathlib.Core.Bool.{Bool, true, false, not, _&&_}
 use mathlib.Core.Logic.{_⊎_, inl, inr, _↔_}
 use Prim.Native.Nat.{ℕ, _+_, _*_, _/_, _%_, _≤_, _<_}
 use native.Mathlib.Omega.{arith}
@@ -13,7 +13,7 @@ use Rattle.std.specs.shelf.Maps.{nth}
 use Rattle.std.specs.shelf.Lists.{Has}
 use Rattle.std.proofs.shelf.Lists.{length-map, getD-map}
 use Rattle.std.proofs.shelf.Maps.{nth-getD}
-use Rattle.std.proofs.shelf.Tests.{eqb-true, eq-eqb, ltb-true, lt-ltb, and-parts, and-from, cases-bool, both-ways, cond-true, cond-false, not-true, not-from-false, or-parts, or-from}
+use Rattle.std.proofs.shelf.Tests.{eqb-true, eq-eqb, ltb-true, lt-ltb, and-parts, and-from, cases-bool, both-ways, cond-true, cond-false, not-true, not-from-false}
 use Rattle.std.proofs.shelf.Ways.{not-from-decides, decides-like}
 use Rattle.rows.specs.Rows.{Ascending}
 use Rattle.rows.proofs.Ascents.{ascending-none, ascending-map}
@@ -24,10 +24,6 @@ use Rattle.place_book.specs.Meaning.{within, places-around, consequences, clas
 use Rattle.place_book.specs.Seats.{thing-of, place-of, known, SeatFollows, ListsFollowing, SeatsClash}
 use Rattle.place_book.proofs.Tree.{within-le, within-tells}
 use Rattle.place_book.proofs.Around.{around-ascends, around-has, has-around}
-
--- a test that is false tells of what is not so
-pub decides-false : {P : Type 0} → (P → ⊥) → Decides false P
-decides-false never = ((λ e. absurd (both-ways false refl e)), λ p. absurd (never p))
 
 pub known-parts : (ps : List ℕ) (c : ℕ) → known ps c ≡ true → (thing-of c < 65536) × (place-of c < length ps)
 known-parts ps c e =
@@ -102,33 +98,6 @@ module _ (ps : List ℕ) (smaller : ParentsAreSmaller ps) where
           (and-from (not (within ps (place-of a) (place-of b))) _
           (not-from-false _ (off _ (λ e. s .not-within (within-tells ps smaller (place-of a) (place-of b) (ka .1) .0 e))))
           (not-from-false _ (off _ (λ e. s .not-around (within-tells ps smaller (place-of b) (place-of a) (kb .1) .0 e))))))
-
-  -- the answers, from whether one place stands and lies within the other
-  abbrev StandsWithin : ℕ → ℕ → Type 0
-  StandsWithin a b = (place-of a < length ps) × Within ps (place-of a) (place-of b)
-
-  pub follows-answer : (a c : ℕ) (w : Bool) → thing-of a ≡ thing-of c → Decides w (StandsWithin a c) → Decides (known ps a && w) (SeatFollows ps a c)
-  follows-answer a c w e tells = (
-    (λ t. let both = and-parts (known ps a) w t in record { known-cause = both .0; same-thing = sym e; within = tells .0 (both .1) .1 }),
-    λ f. and-from (known ps a) w (f .known-cause) (tells .1 (known-parts ps a (f .known-cause) .1, f .within)),
-  )
-
-  pub clash-answer : (a b : ℕ) (w v : Bool) → thing-of a ≡ thing-of b → Decides w (StandsWithin a b) → Decides v (StandsWithin b a) → Decides ((known ps a && known ps b) && not (w || v)) (SeatsClash ps a b)
-  clash-answer a b w v e inner outer = (
-    (λ t.
-        let both = and-parts (known ps a && known ps b) _ t in
-        let knows = and-parts (known ps a) (known ps b) (both .0) in
-        let neither = or-parts w v (not-true _ (both .1)) in
-        record {
-          first-known = knows .0;
-          second-known = knows .1;
-          same-thing = e;
-          not-within = λ u. not-from-decides w inner (neither .0) (known-parts ps a (knows .0) .1, u);
-          not-around = λ u. not-from-decides v outer (neither .1) (known-parts ps b (knows .1) .1, u);
-        }),
-    λ s. and-from (known ps a && known ps b) _ (and-from (known ps a) (known ps b) (s .first-known) (s .second-known))
-        (not-from-false _ (or-from w v (off w (λ t. s .not-within (inner .0 t .1))) (off v (λ t. s .not-around (outer .0 t .1))))),
-  )
 
   -- the list tells the same
   pub listed : (a c : ℕ) (r : Bool) → Decides r (SeatFollows ps a c) → Decides r (Has (consequences ps a) c)

@@ -1,8 +1,8 @@
 -- Lemmas on places that lie within others, and on the test of it.
-use mathlib.Core.Path.{_≡_, refl, subst}
+use mathlib.Core.Path.{_≡_, refl, sym, subst}
 use mathlib.Core.List.{List, [], _∷_, _++_}
 use mathlib.Core.Bool.{Bool, true, _&&_, _||_}
-use mathlib.Core.Logic.{_⊎_, inl, inr}
+use mathlib.Core.Logic.{_⊎_, inl, inr, _↔_}
 use Prim.Native.Nat.{ℕ, zero, suc, _≤_, _<_}
 use native.Mathlib.Omega.{arith}
 use lib.Dec.{eqb, ltb}
@@ -10,7 +10,7 @@ use lib.ListN.{length, getD, take}
 use Rattle.std.specs.Orderings.{Decides}
 use Rattle.std.proofs.shelf.Lists.{length-take, length-push, getD-push, getD-append-left}
 use Rattle.std.proofs.shelf.Tests.{cases-lt, eqb-true, eq-eqb, ltb-true, lt-ltb, or-cases, or-left, or-right, and-parts, and-from}
-use Rattle.std.proofs.shelf.Ways.{same-from-decides, decides-like, decides-eqb}
+use Rattle.std.proofs.shelf.Ways.{decides-like, decides-eqb}
 use Rattle.place_book.specs.Places.{ParentsAreSmaller, Within}
 use Rattle.place_book.specs.Places.Within.{itself, parent}
 use Rattle.place_book.specs.Meaning.{within-by, within}
@@ -71,12 +71,8 @@ module _ (ps : List ℕ) (smaller : ParentsAreSmaller ps) where
   within-tells p q k = (sound p p q k, λ u. whole p u (omega arith))
 
   -- a climb: above q the parent tells the same, and at q or below it only q itself lies within q
-  pub climb-step : (p q : ℕ) → q < p → p < length ps → within ps p q ≡ within ps (getD ps p 0) q
-  climb-step p q lt k =
-      let h : 0 < p = omega arith in
-      same-from-decides (within ps p q) (within ps (getD ps p 0) q) (within-tells p q k)
-      (decides-like (within ps (getD ps p 0) q) (parent h k) (λ u. within-up u lt) (within-tells (getD ps p 0) q (omega (arith, smaller p h k))))
+  pub climb-step : (p up q : ℕ) → up ≡ getD ps p 0 → q < p → p < length ps → Within ps up q ↔ Within ps p q
+  climb-step p up q e lt k = ((λ u. parent (omega arith) k (subst (λ x. Within ps x q) e u)), λ u. subst (λ x. Within ps x q) (sym e) (within-up u lt))
 
-  pub climb-end : (p q : ℕ) → p ≤ q → p < length ps → within ps p q ≡ eqb p q
-  climb-end p q le k = same-from-decides (within ps p q) (eqb p q) (within-tells p q k)
-      (decides-like (eqb p q) (λ e. subst (Within ps p) e itself) (λ u. omega (arith, within-le u)) (decides-eqb p q))
+  pub climb-end : (p q : ℕ) → p ≤ q → Decides (eqb p q) (Within ps p q)
+  climb-end p q le = decides-like (eqb p q) (λ e. subst (Within ps p) e itself) (λ u. omega (arith, within-le u)) (decides-eqb p q)

@@ -69,7 +69,7 @@ impl PlaceBook {
     // Whether a place that stands lies within `outer`: a climb that stops there or above.
     fn climbs(&self, place: usize, outer: usize) -> bool
         requires { ⌜ place < length (book-places (now self)) ⌝ }
-        ensures { λ r. ⌜ r ≡ within (book-places (now (self .entry))) place outer ⌝ }
+        ensures { λ r. ⌜ Decides r (Within (book-places (now (self .entry))) place outer) ⌝ }
     {
         let mut at = place;
         while at > outer {
@@ -106,6 +106,40 @@ impl PlaceBook {
         }
         at
     }
+
+    // Whether the fact follows from the cause: one thing, in a place and in one at or above it.
+    fn seat_follows(&self, cause: u64, fact: u64) -> bool
+        ensures { λ r. ⌜ Decides r (SeatFollows (book-places (now (self .entry))) cause fact) ⌝ }
+    {
+        if cause / 256 != fact / 256 {
+            return false;
+        }
+        if !self.knows(cause) {
+            return false;
+        }
+        self.climbs((cause % 256) as usize, (fact % 256) as usize)
+    }
+
+    // Whether two facts clash: one thing, in two places of which neither lies within the other.
+    fn seats_clash(&self, first: u64, second: u64) -> bool
+        ensures { λ r. ⌜ Decides r (SeatsClash (book-places (now (self .entry))) first second) ⌝ }
+    {
+        if first / 256 != second / 256 {
+            return false;
+        }
+        if !self.knows(first) {
+            return false;
+        }
+        if !self.knows(second) {
+            return false;
+        }
+        let place = (first % 256) as usize;
+        let other = (second % 256) as usize;
+        if self.climbs(place, other) {
+            return false;
+        }
+        !self.climbs(other, place)
+    }
 }
 
 pub impl Book for PlaceBook as PlaceRules {
@@ -128,10 +162,7 @@ pub impl Book for PlaceBook as PlaceRules {
         ensures above { λ r. ⌜ Decides r (SeatFollows (book-places (now (self .entry))) cause fact) ⌝ }
         ensures worlds { λ r. ⌜ (known (book-places (now (self .entry))) cause ≡ true → known (book-places (now (self .entry))) fact ≡ true → Decides r (EveryWorldAgrees (book-places (now (self .entry))) cause fact)) ⌝ }
     {
-        if cause / 256 != fact / 256 {
-            return false;
-        }
-        self.knows(cause) & self.is_within((cause % 256) as usize, (fact % 256) as usize)
+        self.seat_follows(cause, fact)
     }
 
     fn clash(&self, first: u64, second: u64) -> bool
@@ -139,13 +170,7 @@ pub impl Book for PlaceBook as PlaceRules {
         ensures apart { λ r. ⌜ Decides r (SeatsClash (book-places (now (self .entry))) first second) ⌝ }
         ensures worlds { λ r. ⌜ (known (book-places (now (self .entry))) first ≡ true → known (book-places (now (self .entry))) second ≡ true → Decides r (NoWorldHoldsBoth (book-places (now (self .entry))) first second)) ⌝ }
     {
-        if first / 256 != second / 256 {
-            return false;
-        }
-        let place = (first % 256) as usize;
-        let other = (second % 256) as usize;
-        let nested = self.is_within(place, other) | self.is_within(other, place);
-        self.knows(first) & self.knows(second) & !nested
+        self.seats_clash(first, second)
     }
 
     fn count_following(&self, fact: u64) -> usize

@@ -7,4 +7,4 @@ use Rattle.place_book.proofs.parent_among.Needs as need
 pub returns : need.returns
 returns c =
     let n : length (take (c .args .count) (c .args .parents .now)) ≡ c .args .count = length-take-le _ _ (omega (arith, c .told-parents)) in
-    (omega (arith, c .if-place-eq0 .left), omega arith, sym (getD-take (c .args .count) (c .args .parents .now) (c .args .place) 0 (c .if-place-count .left)))
+    (omega arith, omega arith, sym (getD-take (c .args .count) (c .args .parents .now) (c .args .place) 0 (omega arith)))

@@ -1,18 +1,19 @@
-use mathlib.Core.Path.{_≡_, sym, ap, _∙_}
 use native.Mathlib.Omega.{arith}
 use lib.ListN.{take}
-use Rattle.place_book.specs.Meaning.{within}
+use Rattle.std.proofs.shelf.Ways.{decides-like}
 use Rattle.place_book.proofs.Tree.{climb-step, climb-end}
 use Rattle.place_book.proofs.PlaceBook.climbs.Needs as need
 
 pub loop-at-again : need.loop-at-again
 loop-at-again c =
-    let ps = take (c .args .self .now .count) (c .args .self .now .parents) in (
-      omega (arith, c .loop-at .inv .0, c .up-at .ensures .smaller),
-      ap (λ p. within ps p (c .args .outer)) (c .up-at .ensures .parent) ∙ sym (climb-step ps (c .args .self .now .smaller) (c .loop-at .at) (c .args .outer) (c .loop-at-test .taken) (c .loop-at .inv .0)) ∙ c .loop-at .inv .1,
-    )
+    let b = c .args .self .now in
+    let ps = take (b .count) (b .parents) in
+    let inv = c .loop-at .inv in
+    let step = climb-step ps (b .smaller) (c .loop-at .at) (c .up-at .result) (c .args .outer) (c .up-at .ensures .parent) (omega arith) (inv .0) in
+    (omega (arith, inv .0, c .up-at .ensures .smaller), ((λ u. inv .1 .0 (step .0 u)), λ u. step .1 (inv .1 .1 u)))
 
 pub returns : need.returns
 returns c =
-    let ps = take (c .args .self .now .count) (c .args .self .now .parents) in
-    sym (climb-end ps (c .args .self .now .smaller) (c .loop-at .at) (c .args .outer) (c .loop-at-test .left) (c .loop-at .inv .0)) ∙ c .loop-at .inv .1
+    let b = c .args .self .now in
+    let inv = c .loop-at .inv in
+    decides-like _ (inv .1 .0) (inv .1 .1) (climb-end (take (b .count) (b .parents)) (b .smaller) (c .loop-at .at) (c .args .outer) (omega arith))
