@@ -3,31 +3,21 @@ use mathlib.Core.Path.{_≡_, refl, sym, subst, _∙_}
 use mathlib.Core.List.{List, [], _∷_}
 use mathlib.Core.Bool.{Bool, true, false}
 use mathlib.Core.Logic.{_⊎_, inl, inr, _↔_}
-use Prim.Native.Nat.{ℕ, _+_, _-_, _≤_, _<_}
+use Prim.Native.Nat.{ℕ, _≤_, _<_}
 use native.Mathlib.Omega.{arith}
-use lib.ListN.{length, getD, take}
+use lib.ListN.{length, getD}
 use Rattle.std.specs.Options.{isSome}
 use Rattle.std.specs.Orderings.{Decides}
 use Rattle.std.specs.declared.option.Option.{Option}
 use Rattle.std.specs.declared.option.Option.the-variants.{Some, None}
 use Rattle.std.specs.shelf.Lists.{Has}
 use Rattle.std.proofs.shelf.Elements.{has-getD}
-use Rattle.std.proofs.shelf.Lists.{getD-take, length-take-le}
 use Rattle.std.proofs.shelf.Tests.{both-ways, cases-lt}
+use Rattle.std.proofs.shelf.Ways.{same-from-decides}
+use Rattle.rows.proofs.Tests.{off}
 use Rattle.rows.proofs.Members.{each-member, has-head, has-one}
 use Rattle.book.specs.Meaning.{Meaning, Lawful, Follows, FollowsFromOne, AllKnown, AtPeace}
 use Rattle.book.specs.Lists.{FirstAgainst, FirstClash, NoWorldHoldsAll, SomeClash, ClashIsSymmetric, CausesClash, ConsequencesAtPeace, ConsequencesAtPeaceWith}
-
--- a test that cannot be true is false
-pub off : (b : Bool) → (b ≡ true → ⊥) → b ≡ false
-off true h = absurd (h refl)
-off false h = refl
-
--- tests that are true together are the same
-same-tests : (p q : Bool) → (p ≡ true → q ≡ true) → (q ≡ true → p ≡ true) → p ≡ q
-same-tests true q f g = sym (f refl)
-same-tests false true f g = g refl
-same-tests false false f g = refl
 
 module _ (m : Meaning) (most : ℕ) (law : Lawful m most) where
   turned : (a b : ℕ) → m .clash a b ≡ true → m .clash b a ≡ true
@@ -36,7 +26,7 @@ module _ (m : Meaning) (most : ℕ) (law : Lawful m most) where
       law .clash-is-no-common-world b a (k .1) (k .0) .1 (λ w hb ha. law .clash-is-no-common-world a b (k .0) (k .1) .0 e w ha hb)
 
   pub clash-is-symmetric : ClashIsSymmetric m
-  clash-is-symmetric a b = same-tests (m .clash a b) (m .clash b a) (turned a b) (turned b a)
+  clash-is-symmetric a b = same-from-decides (m .clash a b) (m .clash b a) (turned a b, turned b a) ((λ e. e), λ e. e)
 
   pub causes-clash : CausesClash m
   causes-clash a b c f e =
@@ -53,12 +43,22 @@ module _ (m : Meaning) (most : ℕ) (law : Lawful m most) where
   at-peace l none a b fa fb = off (m .clash a b) (λ e.
       both-ways _ (at-peace-with l (fb .0) (λ d h. none d (fb .0) h (fb .1)) a fa) (causes-clash (fb .0) a b (fb .2) e))
 
-  pub none-against : (l : List ℕ) (c : ℕ) (r : Option ℕ) → FirstAgainst m l c r → r ≡ None → ConsequencesAtPeaceWith m l c
-  none-against l c None f e = at-peace-with l c f
+  -- places in order are enough, since a clash is symmetric
+  peace-by-places : (l : List ℕ) → ((i j : ℕ) → i ≤ j → j < length l → m .clash (getD l i 0) (getD l j 0) ≡ false) → AtPeace m l
+  peace-by-places l none a b ha hb =
+      each-member (λ x. m .clash x b ≡ false) l (λ i hi.
+      each-member (λ y. m .clash (getD l i 0) y ≡ false) l (λ j hj.
+      elim (cases-lt i j) [
+        | inl h ↦ none i j (omega arith) hj
+        | inr h ↦ clash-is-symmetric (getD l i 0) (getD l j 0) ∙ none j i h hi
+      ]) b hb) a ha
+
+  pub none-against : (l : List ℕ) (c : ℕ) (r : Option ℕ) → FirstAgainst m l (length l) c r → r ≡ None → ConsequencesAtPeaceWith m l c
+  none-against l c None f e = at-peace-with l c (each-member (λ d. m .clash d c ≡ false) l f)
   none-against l c (Some i) f e = let z : _≡_ {A = ℕ} 0 1 = cc in absurd (omega arith)
 
   pub none-clash : (l : List ℕ) (r : Option (ℕ × ℕ)) → FirstClash m l r → r ≡ None → ConsequencesAtPeace m l
-  none-clash l None f e = at-peace l f
+  none-clash l None f e = at-peace l (peace-by-places l f)
   none-clash l (Some p) f e = let z : _≡_ {A = ℕ} 0 1 = cc in absurd (omega arith)
 
   -- where nothing clashes, some world holds all
@@ -75,11 +75,11 @@ module _ (m : Meaning) (most : ℕ) (law : Lawful m most) where
   found l p f = (getD l (p .0) 0, getD l (p .1) 0, has-getD l (p .0) 0 (omega (arith, f .0, f .1)), has-getD l (p .1) 0 (f .1), f .2)
 
   pub first-clash-tells : (l : List ℕ) (r : Option (ℕ × ℕ)) → FirstClash m l r → AllKnown m l → Decides (isSome r) (NoWorldHoldsAll m l)
-  first-clash-tells l None f known = ((λ e. absurd (both-ways false refl e)), λ nowhere. absurd (peaceful-world l known f nowhere))
+  first-clash-tells l None f known = ((λ e. absurd (both-ways false refl e)), λ nowhere. absurd (peaceful-world l known (peace-by-places l f) nowhere))
   first-clash-tells l (Some p) f known = ((λ e. clash-nowhere l known (found l p f)), λ nowhere. refl)
 
   pub no-world-is-a-clash : (l : List ℕ) (r : Option (ℕ × ℕ)) → FirstClash m l r → AllKnown m l → NoWorldHoldsAll m l ↔ SomeClash m l
-  no-world-is-a-clash l None f known = ((λ nowhere. absurd (peaceful-world l known f nowhere)), clash-nowhere l known)
+  no-world-is-a-clash l None f known = ((λ nowhere. absurd (peaceful-world l known (peace-by-places l f) nowhere)), clash-nowhere l known)
   no-world-is-a-clash l (Some p) f known = ((λ nowhere. found l p f), clash-nowhere l known)
 
   follows-from-it : (a c : ℕ) → FollowsFromOne m (a ∷ []) c → Follows m a c
@@ -87,40 +87,11 @@ module _ (m : Meaning) (most : ℕ) (law : Lawful m most) where
 
   -- of a fact that does not clash with itself, what follows is what every world that holds it holds
   pub follows-by-worlds : (a c : ℕ) → m .known a ≡ true → m .known c ≡ true → m .clash a a ≡ false → Follows m a c ↔ ((w : m .World) → m .Holds w a → m .Holds w c)
-  follows-by-worlds a c known-a known-c none =
-      ((λ f w h. law .world-holds-what-follows w a c h f),
-      λ every.
-      let known : AllKnown m (a ∷ []) = λ d h. subst (λ x. m .known x ≡ true) (has-one a h) known-a in
-      let peace : AtPeace m (a ∷ []) = λ x y hx hy. subst (λ z. m .clash z y ≡ false) (has-one a hx) (subst (λ z. m .clash a z ≡ false) (has-one a hy) none) in
-      let w = law .some-world-holds-exactly (a ∷ []) known peace in
-      follows-from-it a c (w .1 c known-c .0 (every (w .0) (w .1 a known-a .1 (a, has-head a [], law .itself-follows a known-a)))))
-
-  -- places in order are enough, since a clash is symmetric
-  pub peace-by-places : (l : List ℕ) → ((i j : ℕ) → i ≤ j → j < length l → m .clash (getD l i 0) (getD l j 0) ≡ false) → AtPeace m l
-  peace-by-places l none a b ha hb =
-      each-member (λ x. m .clash x b ≡ false) l (λ i hi.
-      each-member (λ y. m .clash (getD l i 0) y ≡ false) l (λ j hj.
-      elim (cases-lt i j) [
-        | inl h ↦ none i j (omega arith) hj
-        | inr h ↦ clash-is-symmetric (getD l i 0) (getD l j 0) ∙ none j i h hi
-      ]) b hb) a ha
-
--- The search for the first clash, a place on: no two before place j clash.
-module _ (m : Meaning) (l : List ℕ) (j : ℕ) (within : j < length l) (none : (i k : ℕ) → i ≤ k → k < j → m .clash (getD l i 0) (getD l k 0) ≡ false) where
-  seen : (b : Bool) (i : ℕ) → i < j + 1 → m .clash (getD (take (j + 1 - 0) l) i 0) (getD l j 0) ≡ b → m .clash (getD l i 0) (getD l j 0) ≡ b
-  seen b i h e = let r : getD (take (j + 1 - 0) l) i 0 ≡ getD l i 0 = getD-take (j + 1 - 0) l i 0 (omega arith) in rw r at e
-
-  pub clash-here : (i : ℕ) → FirstAgainst m (take (j + 1 - 0) l) (getD l j 0) (Some i) → FirstClash m l (Some (i, j))
-  clash-here i f =
-      let n : length (take (j + 1 - 0) l) ≡ j + 1 = length-take-le (j + 1 - 0) l (omega arith) ∙ omega arith in
-      let h : i < j + 1 = omega (arith, f .0) in
-      (omega arith, within, seen true i h (f .1), none, λ k below. seen false k (omega arith) (f .2 k below))
-
-  pub no-clash-here : FirstAgainst m (take (j + 1 - 0) l) (getD l j 0) None → (i k : ℕ) → i ≤ k → k < j + 1 → m .clash (getD l i 0) (getD l k 0) ≡ false
-  no-clash-here f i k le h =
-      let n : length (take (j + 1 - 0) l) ≡ j + 1 = length-take-le (j + 1 - 0) l (omega arith) ∙ omega arith in
-      elim (cases-lt k j) [
-        | inl lt ↦ none i k le lt
-        | inr ge ↦ let e : k ≡ j = omega arith in
-            rw e (seen false i (omega arith) (f _ (has-getD (take (j + 1 - 0) l) i 0 (omega arith))))
-      ]
+  follows-by-worlds a c known-a known-c none = (
+    (λ f w h. law .world-holds-what-follows w a c h f),
+    λ every.
+        let known : AllKnown m (a ∷ []) = λ d h. subst (λ x. m .known x ≡ true) (has-one a h) known-a in
+        let peace : AtPeace m (a ∷ []) = λ x y hx hy. subst (λ z. m .clash z y ≡ false) (has-one a hx) (subst (λ z. m .clash a z ≡ false) (has-one a hy) none) in
+        let w = law .some-world-holds-exactly (a ∷ []) known peace in
+        follows-from-it a c (w .1 c known-c .0 (every (w .0) (w .1 a known-a .1 (a, has-head a [], law .itself-follows a known-a)))),
+  )

@@ -11,17 +11,17 @@ use Rattle.book.specs.Meaning.{Meaning, Follows, FollowsFromOne, AllKnown, AtP
 
 -- the place of the first code that the book does not know; none where it knows them all
 abbrev pub FirstUnknown : Meaning → List ℕ → Option ℕ → Type 0
-FirstUnknown m l None = AllKnown m l
+FirstUnknown m l None = (k : ℕ) → k < length l → m .known (getD l k 0) ≡ true
 FirstUnknown m l (Some i) = (i < length l) × (m .known (getD l i 0) ≡ false) × ((k : ℕ) → k < i → m .known (getD l k 0) ≡ true)
 
--- the place of the first fact of the list that clashes with c; none where none does
-abbrev pub FirstAgainst : Meaning → List ℕ → ℕ → Option ℕ → Type 0
-FirstAgainst m l c None = (d : ℕ) → Has l d → m .clash d c ≡ false
-FirstAgainst m l c (Some i) = (i < length l) × (m .clash (getD l i 0) c ≡ true) × ((k : ℕ) → k < i → m .clash (getD l k 0) c ≡ false)
+-- the place of the first fact before place n that clashes with c; none where none does
+abbrev pub FirstAgainst : Meaning → List ℕ → ℕ → ℕ → Option ℕ → Type 0
+FirstAgainst m l n c None = (k : ℕ) → k < n → m .clash (getD l k 0) c ≡ false
+FirstAgainst m l n c (Some i) = (i < n) × (m .clash (getD l i 0) c ≡ true) × ((k : ℕ) → k < i → m .clash (getD l k 0) c ≡ false)
 
 -- the places i ≤ j of two facts that clash, with the least j, and then the least i; none where nothing clashes
 abbrev pub FirstClash : Meaning → List ℕ → Option (ℕ × ℕ) → Type 0
-FirstClash m l None = AtPeace m l
+FirstClash m l None = (i j : ℕ) → i ≤ j → j < length l → m .clash (getD l i 0) (getD l j 0) ≡ false
 FirstClash m l (Some p) =
     (p .0 ≤ p .1) × (p .1 < length l) × (m .clash (getD l (p .0) 0) (getD l (p .1) 0) ≡ true)
     × ((i j : ℕ) → i ≤ j → j < p .1 → m .clash (getD l i 0) (getD l j 0) ≡ false)

@@ -1,6 +1,8 @@
 // What a book says of a list of facts, and what the laws give of it, for every book.
 ghost use mathlib.Core.Logic.{_↔_};
 ghost use mathlib.Core.Path.{_≡_};
+ghost use Prim.Native.Nat.{_≤_};
+ghost use lib.ListN.{length};
 ghost use Rattle.std.specs.Options.{isSome};
 ghost use Rattle.std.specs.Orderings.{Decides};
 ghost use Rattle.std.specs.declared.option.Option.the-variants.{None};
@@ -22,17 +24,12 @@ pub fn first_unknown<B: Book>(book: &B, facts: &[u64]) -> Option<usize>
 
 // The place of the first of the facts that clashes with `fact`, or none where none does.
 pub fn first_against<B: Book>(book: &B, facts: &[u64], fact: u64) -> Option<usize>
-    ensures first { λ r. ⌜ FirstAgainst (meaning (now (book .entry))) (now (facts .entry)) fact r ⌝ }
+    ensures first { λ r. ⌜ FirstAgainst (meaning (now (book .entry))) (now (facts .entry)) (length (now (facts .entry))) fact r ⌝ }
     ensures symmetric { λ _. ⌜ ClashIsSymmetric (meaning (now (book .entry))) ⌝ }
     ensures causes_clash { λ _. ⌜ CausesClash (meaning (now (book .entry))) ⌝ }
     ensures consequences { λ r. ⌜ (r ≡ None → ConsequencesAtPeaceWith (meaning (now (book .entry))) (now (facts .entry)) fact) ⌝ }
 {
-    for (i, other) in facts.iter().enumerate() {
-        if book.clash(*other, fact) {
-            return Some(i);
-        }
-    }
-    None
+    against(book, facts, facts.len(), fact)
 }
 
 // The places i ≤ j of the first two facts that clash, or none: the least j, and for it the least i.
@@ -42,8 +39,28 @@ pub fn first_clash<B: Book>(book: &B, facts: &[u64]) -> Option<(usize, usize)>
     ensures some_clash { λ _. ⌜ (AllKnown (meaning (now (book .entry))) (now (facts .entry)) → NoWorldHoldsAll (meaning (now (book .entry))) (now (facts .entry)) ↔ SomeClash (meaning (now (book .entry))) (now (facts .entry))) ⌝ }
     ensures consequences { λ r. ⌜ (r ≡ None → ConsequencesAtPeace (meaning (now (book .entry))) (now (facts .entry))) ⌝ }
 {
-    for (j, fact) in facts.iter().enumerate() {
-        if let Some(i) = first_against(book, &facts[0..j + 1], *fact) {
+    clash_among(book, facts)
+}
+
+// The place of the first fact before place `end` that clashes with `fact`.
+fn against<B: Book>(book: &B, facts: &[u64], end: usize, fact: u64) -> Option<usize>
+    requires { ⌜ end ≤ length (now facts) ⌝ }
+    ensures { λ r. ⌜ FirstAgainst (meaning (now (book .entry))) (now (facts .entry)) end fact r ⌝ }
+{
+    for i in 0..end {
+        if book.clash(facts[i], fact) {
+            return Some(i);
+        }
+    }
+    None
+}
+
+// The places of the first two facts that clash.
+fn clash_among<B: Book>(book: &B, facts: &[u64]) -> Option<(usize, usize)>
+    ensures { λ r. ⌜ FirstClash (meaning (now (book .entry))) (now (facts .entry)) r ⌝ }
+{
+    for j in 0..facts.len() {
+        if let Some(i) = against(book, facts, j + 1, facts[j]) {
             return Some((i, j));
         }
     }

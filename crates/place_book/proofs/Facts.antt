@@ -18,7 +18,7 @@ use Rattle.std.proofs.shelf.Ways.{not-from-decides, decides-like}
 use Rattle.rows.specs.Rows.{Ascending}
 use Rattle.rows.proofs.Ascents.{ascending-none, ascending-map}
 use Rattle.rows.proofs.Members.{has-none, map-has, has-map}
-use Rattle.book.proofs.Peace.{off}
+use Rattle.rows.proofs.Tests.{off}
 use Rattle.place_book.specs.Places.{ParentsAreSmaller, Within}
 use Rattle.place_book.specs.Meaning.{within, places-around, consequences, clash}
 use Rattle.place_book.specs.Seats.{thing-of, place-of, known, SeatFollows, ListsFollowing, SeatsClash}

@@ -15,7 +15,8 @@ use Rattle.std.proofs.shelf.Tests.{cases-bool, both-ways, eqb-true, eq-eqb, ne-
 use Rattle.std.proofs.shelf.Ways.{not-from-decides, decides-at, decides-like}
 use Rattle.rows.proofs.Members.{has-none, has-head, has-tail, has-cases}
 use Rattle.book.specs.Meaning.{Meaning, Lawful, Follows, FollowsFromOne, AllKnown, AtPeace}
-use Rattle.book.proofs.Peace.{off, follows-by-worlds}
+use Rattle.rows.proofs.Tests.{off}
+use Rattle.book.proofs.Peace.{follows-by-worlds}
 use Rattle.place_book.specs.Places.{ParentsAreSmaller, Within}
 use Rattle.place_book.specs.Places.Within.{itself}
 use Rattle.place_book.specs.Meaning.{within, places-around, consequences, clash, place-meaning}

@@ -2,7 +2,7 @@ use Prim.Native.Nat.{ℕ, _<_, _≤_}
 use mathlib.Core.Path.{_≡_}
 use mathlib.Core.Bool.{false}
 use lib.ListN.{getD}
-use Rattle.book.proofs.lists.first_clash.Given as given
+use Rattle.book.proofs.lists.clash_among.Given as given
 
 -- no two so far clash
 abbrev pub Inv-loop-j : given.InvT-loop-j

@@ -2,7 +2,7 @@ use Prim.Native.Nat.{ℕ, _<_}
 use mathlib.Core.Path.{_≡_}
 use mathlib.Core.Bool.{false}
 use lib.ListN.{getD}
-use Rattle.book.proofs.lists.first_against.Given as given
+use Rattle.book.proofs.lists.against.Given as given
 
 -- none so far clashes with the fact
 abbrev pub Inv-loop-i : given.InvT-loop-i
