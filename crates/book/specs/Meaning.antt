@@ -5,12 +5,13 @@ use mathlib.Core.Bool.{Bool, true, false}
 use mathlib.Core.Logic.{_↔_}
 use Prim.Native.Nat.{ℕ, _≤_, _<_, _^_}
 use lib.ListN.{length}
+use Rattle.std.specs.Orderings.{Decides}
 use Rattle.std.specs.shelf.Lists.{Has}
 use Rattle.rows.specs.Rows.{Ascending}
 
 -- The meaning of one book of rules. A fact is a code, a whole number of 64 bits.
 pub record Meaning : Type 1 where
-  -- a world says of each known fact whether it holds
+  -- a world says of each known fact whether it holds; what it says of other codes counts for nothing
   pub World : Type 0
   pub Holds : World → ℕ → Type 0
   -- whether the book knows a code
@@ -33,8 +34,16 @@ abbrev pub AllKnown : Meaning → List ℕ → Type 0
 AllKnown m l = (c : ℕ) → Has l c → m .known c ≡ true
 
 -- no two facts of the list clash, and none clashes with itself
-abbrev pub AtPeace : Meaning → List ℕ → Type 0
-AtPeace m l = (a b : ℕ) → Has l a → Has l b → m .clash a b ≡ false
+abbrev pub NothingClashes : Meaning → List ℕ → Type 0
+NothingClashes m l = (a b : ℕ) → Has l a → Has l b → m .clash a b ≡ false
+
+-- every world that holds the first fact holds the second
+abbrev pub HoldsWherever : Meaning → ℕ → ℕ → Type 0
+HoldsWherever m a c = (w : m .World) → m .Holds w a → m .Holds w c
+
+-- no world holds both facts
+abbrev pub NoWorldHoldsBoth : Meaning → ℕ → ℕ → Type 0
+NoWorldHoldsBoth m a b = (w : m .World) → m .Holds w a → m .Holds w b → ⊥
 
 -- The laws of every book. `most` is the kind's own number.
 pub record Lawful (m : Meaning) (most : ℕ) : Type 0 where
@@ -49,13 +58,21 @@ pub record Lawful (m : Meaning) (most : ℕ) : Type 0 where
   -- what follows from a following fact follows too
   pub follows-on : (a b c : ℕ) → Follows m a b → Follows m b c → Follows m a c
   -- a world that holds a fact holds everything that follows from it
-  pub world-holds-what-follows : (w : m .World) (a c : ℕ) → m .Holds w a → Follows m a c → m .Holds w c
+  pub world-holds-what-follows : (a c : ℕ) → Follows m a c → HoldsWherever m a c
   -- an unknown code clashes with nothing
   pub only-known-clash : (a b : ℕ) → m .clash a b ≡ true → (m .known a ≡ true) × (m .known b ≡ true)
   -- two known facts, or one taken twice, clash exactly when no world holds both
-  pub clash-is-no-common-world : (a b : ℕ) → m .known a ≡ true → m .known b ≡ true → (m .clash a b ≡ true) ↔ ((w : m .World) → m .Holds w a → m .Holds w b → ⊥)
-  -- of known facts in which nothing clashes, some world holds exactly what follows from one of them
-  pub some-world-holds-exactly : (l : List ℕ) → AllKnown m l → AtPeace m l → (w : m .World) × ((c : ℕ) → m .known c ≡ true → m .Holds w c ↔ FollowsFromOne m l c)
+  pub clash-is-no-common-world : (a b : ℕ) → m .known a ≡ true → m .known b ≡ true → (m .clash a b ≡ true) ↔ NoWorldHoldsBoth m a b
+  -- of known facts of which nothing clashes, some world holds exactly what follows from one of them
+  pub some-world-holds-exactly : (l : List ℕ) → AllKnown m l → NothingClashes m l → (w : m .World) × ((c : ℕ) → m .known c ≡ true → m .Holds w c ↔ FollowsFromOne m l c)
   -- no fact has more consequences than the kind's own number, which is at most 65,536
   pub at-most-follow : (a : ℕ) → length (m .consequences a) ≤ most
   pub most-is-small : most ≤ 65536
+
+-- of known facts, the answer r tells whether every world that holds the first holds the second
+abbrev pub TellsFollows : Meaning → ℕ → ℕ → Bool → Type 0
+TellsFollows m a c r = m .known a ≡ true → m .known c ≡ true → Decides r (HoldsWherever m a c)
+
+-- of known facts, the answer r tells whether no world holds both
+abbrev pub TellsClash : Meaning → ℕ → ℕ → Bool → Type 0
+TellsClash m a b r = m .known a ≡ true → m .known b ≡ true → Decides r (NoWorldHoldsBoth m a b)

@@ -6,7 +6,11 @@ ghost use Rattle.std.specs.Orderings.{Decides};
 ghost use Rattle.std.specs.shelf.Maps.{nth};
 ghost use Rattle.book.specs.Meaning.{Meaning, Lawful, Follows};
 
-pub mod lists;
+mod lists;
+
+pub use lists::first_against;
+pub use lists::first_clash;
+pub use lists::first_unknown;
 
 // A book of rules. A fact is a code, a whole number of 64 bits, and a book knows some codes.
 // Its meaning is a collection of worlds; a world says of each known fact whether it holds.
@@ -17,7 +21,8 @@ pub trait Book {
 
     ghost meaning: { Self → Meaning };
 
-    // The constant above, which a clause cannot name; `most_following` ties the two.
+    // The number of which the laws speak, since a clause cannot name the constant. Every impl answers `most_following`
+    // by its constant; nothing else ties the two, so generic code asks `most_following` and does not read the constant.
     ghost most: { ℕ };
 
     law lawful: { (b : Self) → Lawful (meaning b) most };

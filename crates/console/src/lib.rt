@@ -11,7 +11,7 @@ use std::alloc::Global;
 use std::fmt;
 
 // What a draft answered to a new place: its number, or the refusal.
-pub fn added(heap: Global, answer: Result<usize, Refusal>) -> Result<String, AllocError>
+pub fn added_line(heap: Global, answer: Result<usize, Refusal>) -> Result<String, AllocError>
     ensures { λ r. ⌜ made r (λ s. string-bytes s ≡ added-text answer) ⌝ }
 {
     match answer {
@@ -21,7 +21,7 @@ pub fn added(heap: Global, answer: Result<usize, Refusal>) -> Result<String, All
 }
 
 // What follows from the fact, each on a line in ascending order of codes, and how many follow.
-pub fn following<B: Book>(heap: Global, book: &B, fact: u64) -> Result<String, fmt::Error>
+pub fn following_lines<B: Book>(heap: Global, book: &B, fact: u64) -> Result<String, fmt::Error>
     ensures { λ r. ⌜ made r (λ s. string-bytes s ≡ listing-text (meaning (now (book .entry)) .consequences fact)) ⌝ }
 {
     let mut out = String::new(heap);
@@ -35,7 +35,7 @@ pub fn following<B: Book>(heap: Global, book: &B, fact: u64) -> Result<String, f
 }
 
 // Whether the two facts clash.
-pub fn clash_of<B: Book>(
+pub fn clash_line<B: Book>(
     heap: Global,
     book: &B,
     first: u64,

@@ -14,7 +14,7 @@ use Rattle.std.proofs.shelf.Lists.{length-push, getD-push, getD-append-left}
 use Rattle.std.proofs.shelf.Sums.{length-kept-by, countBy-le-length}
 use Rattle.std.proofs.shelf.Tests.{cases-eq, cases-lt}
 use Rattle.rows.specs.Rows.{Ascending}
-use Rattle.rows.proofs.Members.{kept-has, has-kept, counting-has, has-counting, has-head, has-cases, has-none}
+use Rattle.rows.proofs.Members.{kept-has, has-kept, counting-has, has-counting, has-head, has-one, has-none}
 use Rattle.rows.proofs.Ascents.{ascending-none, ascending-cons, ascending-counting, ascending-kept, ascending-push, same-rows}
 use Rattle.place_book.specs.Places.{ParentsAreSmaller, Within}
 use Rattle.place_book.specs.Places.Within.{itself, parent}
@@ -40,7 +40,7 @@ module _ (ps : List ℕ) (smaller : ParentsAreSmaller ps) where
   pub around-plant : 0 < length ps → places-around ps 0 ≡ 0 ∷ []
   around-plant k = same-rows (places-around ps 0) (0 ∷ []) (around-ascends ps 0) (ascending-cons 0 [] ascending-none (λ c h. absurd (has-none h)))
       (λ q h. let e : q ≡ 0 = omega (arith, within-le ps smaller (around-has 0 q k h)) in subst (λ z. Has (0 ∷ []) z) (sym e) (has-head 0 []))
-      (λ q h. elim (has-cases 0 [] h) [ inl e ↦ subst (λ z. Has (places-around ps 0) z) e (has-around 0 0 k itself) | inr r ↦ absurd (has-none r) ])
+      (λ q h. subst (λ z. Has (places-around ps 0) z) (has-one 0 h) (has-around 0 0 k itself))
 
   pub around-below : (p : ℕ) → 0 < p → p < length ps → places-around ps p ≡ places-around ps (getD ps p 0) ++ (p ∷ [])
   around-below p h k =

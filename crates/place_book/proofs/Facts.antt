@@ -18,10 +18,10 @@ use Rattle.std.proofs.shelf.Ways.{not-from-decides, decides-like}
 use Rattle.rows.specs.Rows.{Ascending}
 use Rattle.rows.proofs.Ascents.{ascending-none, ascending-map}
 use Rattle.rows.proofs.Members.{has-none, map-has, has-map}
-use Rattle.rows.proofs.Tests.{off}
+use Rattle.rows.proofs.Tests.{false-from-not-true}
 use Rattle.place_book.specs.Places.{ParentsAreSmaller, Within}
 use Rattle.place_book.specs.Meaning.{within, places-around, consequences, clash}
-use Rattle.place_book.specs.Seats.{thing-of, place-of, known, SeatFollows, ListsFollowing, SeatsClash}
+use Rattle.place_book.specs.Facts.{thing-of, place-of, known, FactFollows, ListsFollowing, FactsClash}
 use Rattle.place_book.proofs.Tree.{within-le, within-tells}
 use Rattle.place_book.proofs.Around.{around-ascends, around-has, has-around}
 
@@ -46,14 +46,14 @@ some-follow ps c some = elim (cases-bool (known ps c)) [
 ]
 
 module _ (ps : List ℕ) (smaller : ParentsAreSmaller ps) where
-  pub has-consequence : (a c : ℕ) → SeatFollows ps a c → Has (consequences ps a) c
+  pub has-consequence : (a c : ℕ) → FactFollows ps a c → Has (consequences ps a) c
   has-consequence a c f =
       let k = known-parts ps a (f .known-cause) in
       let e : thing-of a * 256 + place-of c ≡ c = omega (arith, f .same-thing) in
       let m = has-map (λ q. thing-of a * 256 + q) (places-around ps (place-of a)) (place-of c) (has-around ps smaller (place-of a) (place-of c) (k .1) (f .within)) in
       subst (λ l. Has l c) (sym (consequences-known ps a (f .known-cause))) (subst (λ z. Has (map (λ q. thing-of a * 256 + q) (places-around ps (place-of a))) z) e m)
 
-  pub consequence-has : (a c : ℕ) → Has (consequences ps a) c → SeatFollows ps a c
+  pub consequence-has : (a c : ℕ) → Has (consequences ps a) c → FactFollows ps a c
   consequence-has a c h = elim (cases-bool (known ps a)) [
     | inl e ↦
         let k = known-parts ps a e in
@@ -65,15 +65,15 @@ module _ (ps : List ℕ) (smaller : ParentsAreSmaller ps) where
     | inr e ↦ absurd (has-none (subst (λ l. Has l c) (consequences-unknown ps a e) h))
   ]
 
-  pub follows-known : (a c : ℕ) → SeatFollows ps a c → known ps c ≡ true
+  pub follows-known : (a c : ℕ) → FactFollows ps a c → known ps c ≡ true
   follows-known a c f =
       let k = known-parts ps a (f .known-cause) in
       known-from ps c (omega (arith, k .0, f .same-thing)) (omega (arith, k .1, within-le ps smaller (f .within)))
 
-  pub clash-tells : (a b : ℕ) → Decides (clash ps a b) (SeatsClash ps a b)
+  pub clash-tells : (a b : ℕ) → Decides (clash ps a b) (FactsClash ps a b)
   clash-tells a b = (to, from)
     where
-      to : clash ps a b ≡ true → SeatsClash ps a b
+      to : clash ps a b ≡ true → FactsClash ps a b
       to e =
           let outer = and-parts (known ps a && known ps b) _ e in
           let both = and-parts (known ps a) (known ps b) (outer .0) in
@@ -89,18 +89,18 @@ module _ (ps : List ℕ) (smaller : ParentsAreSmaller ps) where
             not-around = not-from-decides _ (within-tells ps smaller (place-of b) (place-of a) (kb .1)) (not-true _ (apart .1));
           }
 
-      from : SeatsClash ps a b → clash ps a b ≡ true
+      from : FactsClash ps a b → clash ps a b ≡ true
       from s =
           let ka = known-parts ps a (s .first-known) in
           let kb = known-parts ps b (s .second-known) in
           and-from (known ps a && known ps b) _ (and-from (known ps a) (known ps b) (s .first-known) (s .second-known))
           (and-from (eqb (thing-of a) (thing-of b)) _ (eq-eqb (thing-of a) (thing-of b) (s .same-thing))
           (and-from (not (within ps (place-of a) (place-of b))) _
-          (not-from-false _ (off _ (λ e. s .not-within (within-tells ps smaller (place-of a) (place-of b) (ka .1) .0 e))))
-          (not-from-false _ (off _ (λ e. s .not-around (within-tells ps smaller (place-of b) (place-of a) (kb .1) .0 e))))))
+          (not-from-false _ (false-from-not-true _ (λ e. s .not-within (within-tells ps smaller (place-of a) (place-of b) (ka .1) .0 e))))
+          (not-from-false _ (false-from-not-true _ (λ e. s .not-around (within-tells ps smaller (place-of b) (place-of a) (kb .1) .0 e))))))
 
   -- the list tells the same
-  pub listed : (a c : ℕ) (r : Bool) → Decides r (SeatFollows ps a c) → Decides r (Has (consequences ps a) c)
+  pub listed : (a c : ℕ) (r : Bool) → Decides r (FactFollows ps a c) → Decides r (Has (consequences ps a) c)
   listed a c r = decides-like r (has-consequence a c) (consequence-has a c)
 
   pub ascending-consequences : (a : ℕ) → Ascending (consequences ps a)

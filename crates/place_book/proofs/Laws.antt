@@ -13,14 +13,14 @@ use Rattle.std.specs.declared.option.Option.the-variants.{Some, None}
 use Rattle.std.specs.shelf.Lists.{Has}
 use Rattle.std.proofs.shelf.Tests.{cases-bool, both-ways, eqb-true, eq-eqb, ne-eqb, cond-true, cond-false, cases-eq}
 use Rattle.std.proofs.shelf.Ways.{not-from-decides, decides-at, decides-like}
-use Rattle.rows.proofs.Members.{has-none, has-head, has-tail, has-cases}
-use Rattle.book.specs.Meaning.{Meaning, Lawful, Follows, FollowsFromOne, AllKnown, AtPeace}
-use Rattle.rows.proofs.Tests.{off}
+use Rattle.rows.proofs.Members.{has-none, has-head, has-tail, has-cases, has-one}
+use Rattle.book.specs.Meaning.{Meaning, Lawful, Follows, FollowsFromOne, AllKnown, NothingClashes, TellsFollows, TellsClash}
+use Rattle.rows.proofs.Tests.{false-from-not-true, some-not-none}
 use Rattle.book.proofs.Peace.{follows-by-worlds}
 use Rattle.place_book.specs.Places.{ParentsAreSmaller, Within}
 use Rattle.place_book.specs.Places.Within.{itself}
 use Rattle.place_book.specs.Meaning.{within, places-around, consequences, clash, place-meaning}
-use Rattle.place_book.specs.Seats.{thing-of, place-of, known, World, Holds, SeatFollows, SeatsClash, EveryWorldAgrees, NoWorldHoldsBoth}
+use Rattle.place_book.specs.Facts.{thing-of, place-of, known, World, Holds, FactFollows, FactsClash}
 use Rattle.place_book.proofs.Tree.{within-trans, within-chain, within-le, within-tells}
 use Rattle.place_book.proofs.Around.{around-few}
 use Rattle.place_book.proofs.Facts.{known-parts, consequences-unknown, has-consequence, consequence-has, follows-known, clash-tells, ascending-consequences, consequences-count}
@@ -41,9 +41,6 @@ Named l a s = (d : ℕ) × Has l d × (thing-of d ≡ a) × (place-of d ≡ s)
 some-same : {x y : ℕ} → Some x ≡ Some y → x ≡ y
 some-same e = cc
 
-none-some : {x : ℕ} → _≡_ {A = Option ℕ} None (Some x) → ⊥
-none-some e = let z : _≡_ {A = ℕ} 0 1 = cc in omega arith
-
 cases-max : (x y : ℕ) → (max x y ≡ x) ⊎ (max x y ≡ y)
 cases-max x y = elim (cases-eq (max x y) x) [ inl e ↦ inl e | inr n ↦ inr (omega (arith, n)) ]
 
@@ -59,7 +56,7 @@ named-here d l a (Some t) e later = elim (cases-max (place-of d) t) [
 
 -- the seat is a place that the list names
 seat-named : (l : List ℕ) (a s : ℕ) → seat-of l a ≡ Some s → Named l a s
-seat-named [] a s e = absurd (none-some e)
+seat-named [] a s e = absurd (some-not-none (sym e))
 seat-named (d ∷ l) a s e = elim (cases-eq (thing-of d) a) [
   | inl q ↦
       let t = cond-true (eqb (thing-of d) a) (Some (deeper (place-of d) (seat-of l a))) (seat-of l a) (eq-eqb (thing-of d) a q) in
@@ -75,7 +72,7 @@ deeper-here p None = omega arith
 deeper-here p (Some t) = omega arith
 
 deeper-later : (p s : ℕ) (o : Option ℕ) → o ≡ Some s → s ≤ deeper p o
-deeper-later p s None e = absurd (none-some e)
+deeper-later p s None e = absurd (some-not-none (sym e))
 deeper-later p s (Some t) e = omega (arith, some-same e)
 
 abbrev Seated : List ℕ → ℕ → ℕ → Type 0
@@ -133,7 +130,7 @@ module _ (ps : List ℕ) (smaller : ParentsAreSmaller ps) where
         ]
       ]
 
-  world-exact : (l : List ℕ) (k : AllKnown m l) → AtPeace m l → (c : ℕ) → Holds ps (world-of l k) c ↔ FollowsFromOne m l c
+  world-exact : (l : List ℕ) (k : AllKnown m l) → NothingClashes m l → (c : ℕ) → Holds ps (world-of l k) c ↔ FollowsFromOne m l c
   unfolding world-of
   world-exact l k peace c = (to, from)
     where
@@ -162,19 +159,19 @@ module _ (ps : List ℕ) (smaller : ParentsAreSmaller ps) where
   of-two : (P : ℕ → Type 0) (a b : ℕ) → P a → P b → (c : ℕ) → Has (a ∷ b ∷ []) c → P c
   of-two P a b pa pb c h = elim (has-cases a (b ∷ []) h) [
     | inl e ↦ subst P e pa
-    | inr r ↦ elim (has-cases b [] r) [ inl e ↦ subst P e pb | inr z ↦ absurd (has-none z) ]
+    | inr r ↦ subst P (has-one b r) pb
   ]
 
   clash-itself : (a : ℕ) → clash ps a a ≡ false
-  clash-itself a = off (clash ps a a) (λ e. clash-tells ps smaller a a .0 e .not-within itself)
+  clash-itself a = false-from-not-true (clash ps a a) (λ e. clash-tells ps smaller a a .0 e .not-within itself)
 
   clash-turned : (a b : ℕ) → clash ps a b ≡ true → clash ps b a ≡ true
   clash-turned a b e =
       let s = clash-tells ps smaller a b .0 e in
       clash-tells ps smaller b a .1 (record { first-known = s .second-known; second-known = s .first-known; same-thing = sym (s .same-thing); not-within = s .not-around; not-around = s .not-within })
 
-  clash-nowhere : (a b : ℕ) → clash ps a b ≡ true → (w : World ps) → Holds ps w a → Holds ps w b → ⊥
-  clash-nowhere a b e w ha hb =
+  clash-holds-nowhere : (a b : ℕ) → clash ps a b ≡ true → (w : World ps) → Holds ps w a → Holds ps w b → ⊥
+  clash-holds-nowhere a b e w ha hb =
       let s = clash-tells ps smaller a b .0 e in
       let seat : ha .0 ≡ hb .0 = some-same (sym (ha .1) ∙ ap (w .seat) (s .same-thing) ∙ hb .1) in
       elim (within-chain (ha .2) (subst (λ x. Within ps x (place-of b)) (sym seat) (hb .2))) [
@@ -182,14 +179,14 @@ module _ (ps : List ℕ) (smaller : ParentsAreSmaller ps) where
         | inr u ↦ s .not-around u
       ]
 
-  nowhere-clash : (a b : ℕ) → known ps a ≡ true → known ps b ≡ true → ((w : World ps) → Holds ps w a → Holds ps w b → ⊥) → clash ps a b ≡ true
-  nowhere-clash a b ka kb nowhere = elim (cases-bool (clash ps a b)) [
+  holds-nowhere-clash : (a b : ℕ) → known ps a ≡ true → known ps b ≡ true → ((w : World ps) → Holds ps w a → Holds ps w b → ⊥) → clash ps a b ≡ true
+  holds-nowhere-clash a b ka kb nowhere = elim (cases-bool (clash ps a b)) [
     | inl e ↦ e
     | inr none ↦
-        let turned = off (clash ps b a) (λ e. both-ways _ none (clash-turned b a e)) in
+        let turned = false-from-not-true (clash ps b a) (λ e. both-ways _ none (clash-turned b a e)) in
         let l : List ℕ = a ∷ b ∷ [] in
         let k : AllKnown m l = of-two (λ c. known ps c ≡ true) a b ka kb in
-        let peace : AtPeace m l = λ x y hx hy. of-two (λ z. clash ps z y ≡ false) a b (of-two (λ z. clash ps a z ≡ false) a b (clash-itself a) none y hy) (of-two (λ z. clash ps b z ≡ false) a b turned (clash-itself b) y hy) x hx in
+        let peace : NothingClashes m l = λ x y hx hy. of-two (λ z. clash ps z y ≡ false) a b (of-two (λ z. clash ps a z ≡ false) a b (clash-itself a) none y hy) (of-two (λ z. clash ps b z ≡ false) a b turned (clash-itself b) y hy) x hx in
         let exact = world-exact l k peace in
         let itself-of : (c : ℕ) → Has l c → known ps c ≡ true → FollowsFromOne m l c = λ c h kc. (c, h, has-consequence ps smaller c c (record { known-cause = kc; same-thing = refl; within = itself })) in
         absurd (nowhere (world-of l k) (exact a .1 (itself-of a (has-head a (b ∷ [])) ka)) (exact b .1 (itself-of b (has-tail a (b ∷ []) (has-head b [])) kb)))
@@ -211,21 +208,21 @@ module _ (ps : List ℕ) (smaller : ParentsAreSmaller ps) where
         let f = consequence-has ps smaller a b h in
         let g = consequence-has ps smaller b c k in
         has-consequence ps smaller a c (record { known-cause = f .known-cause; same-thing = g .same-thing ∙ f .same-thing; within = within-trans (f .within) (g .within) });
-    world-holds-what-follows = λ w a c h k.
+    world-holds-what-follows = λ a c k w h.
         let f = consequence-has ps smaller a c k in
         (h .0, ap (w .seat) (f .same-thing) ∙ h .1, within-trans (h .2) (f .within));
     only-known-clash = λ a b e. let s = clash-tells ps smaller a b .0 e in (s .first-known, s .second-known);
-    clash-is-no-common-world = λ a b ka kb. (clash-nowhere a b, nowhere-clash a b ka kb);
+    clash-is-no-common-world = λ a b ka kb. (clash-holds-nowhere a b, holds-nowhere-clash a b ka kb);
     some-world-holds-exactly = λ l k peace. (world-of l k, λ c kc. world-exact l k peace c);
     at-most-follow = few small;
     most-is-small = omega arith;
   }
 
   -- the answers by worlds
-  pub follows-in-worlds : length ps ≤ 256 → (a c : ℕ) (r : Bool) → Decides r (Has (consequences ps a) c) → known ps a ≡ true → known ps c ≡ true → Decides r (EveryWorldAgrees ps a c)
+  pub follows-in-worlds : length ps ≤ 256 → (a c : ℕ) (r : Bool) → Decides r (Has (consequences ps a) c) → TellsFollows m a c r
   follows-in-worlds small a c r tells ka kc =
       let same = follows-by-worlds m 256 (place-book-lawful small) a c ka kc (clash-itself a) in
       decides-like r (same .0) (same .1) tells
 
-  pub clash-in-worlds : (a b : ℕ) (r : Bool) → r ≡ clash ps a b → known ps a ≡ true → known ps b ≡ true → Decides r (NoWorldHoldsBoth ps a b)
-  clash-in-worlds a b r e ka kb = decides-at r (clash ps a b) e (clash-nowhere a b, nowhere-clash a b ka kb)
+  pub clash-in-worlds : (a b : ℕ) (r : Bool) → r ≡ clash ps a b → TellsClash m a b r
+  clash-in-worlds a b r e ka kb = decides-at r (clash ps a b) e (clash-holds-nowhere a b, holds-nowhere-clash a b ka kb)

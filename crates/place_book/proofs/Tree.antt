@@ -8,7 +8,7 @@ use native.Mathlib.Omega.{arith}
 use lib.Dec.{eqb, ltb}
 use lib.ListN.{length, getD, take}
 use Rattle.std.specs.Orderings.{Decides}
-use Rattle.std.proofs.shelf.Lists.{length-take, length-push, getD-push, getD-append-left}
+use Rattle.std.proofs.shelf.Lists.{length-take, length-take-le, length-push, getD-take, getD-push, getD-append-left}
 use Rattle.std.proofs.shelf.Tests.{cases-lt, eqb-true, eq-eqb, ltb-true, lt-ltb, or-cases, or-left, or-right, and-parts, and-from}
 use Rattle.std.proofs.shelf.Ways.{decides-like, decides-eqb}
 use Rattle.place_book.specs.Places.{ParentsAreSmaller, Within}
@@ -17,6 +17,13 @@ use Rattle.place_book.specs.Meaning.{within-by, within}
 
 pub few-places : (n : ℕ) (parents : List ℕ) → n ≤ 256 → length (take n parents) ≤ 256
 few-places n parents few = omega (arith, length-take n parents)
+
+-- the parent of a place among the first n, as the array has it
+pub parent-read : (n : ℕ) (parents : List ℕ) (p : ℕ) → ParentsAreSmaller (take n parents) → n ≤ length parents → 0 < p → p < n → (p < length (take n parents)) × (getD parents p 0 ≡ getD (take n parents) p 0) × (getD parents p 0 < p)
+parent-read n parents p smaller within h k =
+    let long : length (take n parents) ≡ n = length-take-le n parents within in
+    let same : getD parents p 0 ≡ getD (take n parents) p 0 = sym (getD-take n parents p 0 k) in
+    (omega arith, same, omega (arith, same, smaller p h (omega arith)))
 
 -- one place more, under a parent that stands
 pub smaller-push : (ps : List ℕ) (q : ℕ) → ParentsAreSmaller ps → q < length ps → ParentsAreSmaller (ps ++ (q ∷ []))
@@ -29,7 +36,7 @@ pub within-trans : {ps : List ℕ} {p q r : ℕ} → Within ps p q → Within ps
 within-trans itself v = v
 within-trans (parent h k u) v = parent h k (within-trans u v)
 
--- the last step first
+-- the place itself, or its parent
 split : {ps : List ℕ} {s q : ℕ} → Within ps s q → (s ≡ q) ⊎ Within ps (getD ps s 0) q
 split itself = inl refl
 split (parent h k u) = inr u

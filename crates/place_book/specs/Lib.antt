@@ -1,5 +1,5 @@
 pub mod Places
-pub mod Seats
+pub mod Facts
 pub mod Meaning
 pub mod View
 pub mod Refusals

@@ -12,12 +12,12 @@ use Rattle.std.specs.declared.option.Option.the-variants.{Some, None}
 abbrev pub ParentsAreSmaller : List ℕ → Type 0
 ParentsAreSmaller ps = (p : ℕ) → 0 < p → p < length ps → getD ps p 0 < p
 
--- the parent of place p; place 0 has none, nor has a place that does not stand
+-- the parent of place p, which has a smaller number; place 0 has none, nor has a place that does not stand
 abbrev pub ParentOf : List ℕ → ℕ → Option ℕ → Type 0
 ParentOf ps p None = (p ≡ 0) ⊎ (length ps ≤ p)
-ParentOf ps p (Some q) = (0 < p) × (p < length ps) × (q ≡ getD ps p 0)
+ParentOf ps p (Some q) = (0 < p) × (p < length ps) × (q ≡ getD ps p 0) × (q < p)
 
--- Place p lies within place q: q is p, or is above p, its parent followed any number of times.
+-- Place p lies within place q: q is p or is above p, that is p's parent followed any number of times, none included.
 pub data Within (ps : List ℕ) : ℕ → ℕ → Type 0 where
   itself : {p : ℕ} → Within ps p p
   parent : {p q : ℕ} → 0 < p → p < length ps → Within ps (getD ps p 0) q → Within ps p q

@@ -1,4 +1,4 @@
--- Why a draft refuses a new place.
+-- What a draft answers to a new place.
 use mathlib.Core.Path.{_≡_}
 use mathlib.Core.List.{List}
 use mathlib.Core.Logic.{_⊎_}
@@ -17,8 +17,11 @@ abbrev pub returned-by : Refusal → ℕ
 returned-by (NoParent p) = p
 returned-by Full = 256
 
--- where the places ps stand, a new place under `parent` is refused
--- with 4 and the parent if that does not stand, else with 5 and 256 if 256 places stand
+-- where the places ps stand, a new place under `parent` gets the next number
+abbrev pub Accepted : List ℕ → ℕ → ℕ → Type 0
+Accepted ps parent n = (parent < length ps) × (length ps < 256) × (n ≡ length ps)
+
+-- or is refused: with 4 and the parent if that does not stand, else with 5 and 256 if 256 places stand
 abbrev pub Refused : List ℕ → ℕ → Refusal → Type 0
 Refused ps parent e =
     ((length ps ≤ parent) × (number-of e ≡ 4) × (returned-by e ≡ parent))

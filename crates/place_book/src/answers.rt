@@ -1,15 +1,14 @@
 // What a book of places answers.
-ghost use mathlib.Core.Bool.{true};
 ghost use mathlib.Core.List.{List};
 ghost use mathlib.Core.Path.{_≡_};
 ghost use Prim.Native.Nat.{ℕ, _≤_, _<_};
 ghost use lib.ListN.{length, getD};
 ghost use Rattle.std.specs.Orderings.{Decides};
 ghost use Rattle.std.specs.shelf.Maps.{nth};
-ghost use Rattle.book.specs.Meaning.{Follows};
+ghost use Rattle.book.specs.Meaning.{Follows, TellsFollows, TellsClash};
 ghost use Rattle.place_book.specs.Places.{ParentOf, Within};
-ghost use Rattle.place_book.specs.Meaning.{within, places-around, consequences, clash, place-meaning};
-ghost use Rattle.place_book.specs.Seats.{known, CodeOf, SeatOf, SeatFollows, ListsFollowing, SeatsClash, EveryWorldAgrees, NoWorldHoldsBoth};
+ghost use Rattle.place_book.specs.Meaning.{places-around, consequences, clash, place-meaning};
+ghost use Rattle.place_book.specs.Facts.{CodeOf, PartsOf, FactFollows, ListsFollowing, FactsClash};
 ghost use Rattle.place_book.specs.View.{book-places};
 use crate::PlaceBook;
 use crate::parent_among;
@@ -17,8 +16,9 @@ use book::Book;
 
 impl PlaceBook {
     // How many places stand.
-    pub fn count(&self) -> usize
-        ensures { λ r. ⌜ r ≡ length (book-places (now (self .entry))) ⌝ }
+    pub fn place_count(&self) -> usize
+        ensures number { λ r. ⌜ r ≡ length (book-places (now (self .entry))) ⌝ }
+        ensures bounds { λ r. ⌜ (0 < r) × (r ≤ 256) ⌝ }
     {
         self.count
     }
@@ -41,8 +41,8 @@ impl PlaceBook {
     }
 
     // The thing and the place of a fact that the book knows.
-    pub fn seat(&self, fact: u64) -> Option<(u32, usize)>
-        ensures { λ r. ⌜ SeatOf (book-places (now (self .entry))) fact r ⌝ }
+    pub fn parts(&self, fact: u64) -> Option<(u32, usize)>
+        ensures { λ r. ⌜ PartsOf (book-places (now (self .entry))) fact r ⌝ }
     {
         if !self.knows(fact) {
             return None;
@@ -50,11 +50,11 @@ impl PlaceBook {
         Some(((fact / 256) as u32, (fact % 256) as usize))
     }
 
-    // Whether the place stands and lies within `outer`.
+    // Whether the place stands and is `outer` or lies below it.
     pub fn is_within(&self, place: usize, outer: usize) -> bool
         ensures { λ r. ⌜ Decides r ((place < length (book-places (now (self .entry)))) × Within (book-places (now (self .entry))) place outer) ⌝ }
     {
-        place < self.count && self.climbs(place, outer)
+        place < self.count && self.lies_within(place, outer)
     }
 
     // The parent of a place that stands and is not the plant.
@@ -66,8 +66,8 @@ impl PlaceBook {
         self.parents[place] as usize
     }
 
-    // Whether a place that stands lies within `outer`: a climb that stops there or above.
-    fn climbs(&self, place: usize, outer: usize) -> bool
+    // Whether a place that stands is `outer` or lies below it: a climb that stops there or at a smaller number.
+    fn lies_within(&self, place: usize, outer: usize) -> bool
         requires { ⌜ place < length (book-places (now self)) ⌝ }
         ensures { λ r. ⌜ Decides r (Within (book-places (now (self .entry))) place outer) ⌝ }
     {
@@ -108,8 +108,8 @@ impl PlaceBook {
     }
 
     // Whether the fact follows from the cause: one thing, in a place and in one at or above it.
-    fn seat_follows(&self, cause: u64, fact: u64) -> bool
-        ensures { λ r. ⌜ Decides r (SeatFollows (book-places (now (self .entry))) cause fact) ⌝ }
+    fn fact_follows(&self, cause: u64, fact: u64) -> bool
+        ensures { λ r. ⌜ Decides r (FactFollows (book-places (now (self .entry))) cause fact) ⌝ }
     {
         if cause / 256 != fact / 256 {
             return false;
@@ -117,12 +117,12 @@ impl PlaceBook {
         if !self.knows(cause) {
             return false;
         }
-        self.climbs((cause % 256) as usize, (fact % 256) as usize)
+        self.lies_within((cause % 256) as usize, (fact % 256) as usize)
     }
 
     // Whether two facts clash: one thing, in two places of which neither lies within the other.
-    fn seats_clash(&self, first: u64, second: u64) -> bool
-        ensures { λ r. ⌜ Decides r (SeatsClash (book-places (now (self .entry))) first second) ⌝ }
+    fn facts_clash(&self, first: u64, second: u64) -> bool
+        ensures { λ r. ⌜ Decides r (FactsClash (book-places (now (self .entry))) first second) ⌝ }
     {
         if first / 256 != second / 256 {
             return false;
@@ -135,10 +135,10 @@ impl PlaceBook {
         }
         let place = (first % 256) as usize;
         let other = (second % 256) as usize;
-        if self.climbs(place, other) {
+        if self.lies_within(place, other) {
             return false;
         }
-        !self.climbs(other, place)
+        !self.lies_within(other, place)
     }
 }
 
@@ -154,23 +154,23 @@ pub impl Book for PlaceBook as PlaceRules {
     }
 
     fn knows(&self, code: u64) -> bool {
-        (code / 256 < 65536) & (((code % 256) as usize) < self.count)
+        code / 256 < 65536 && ((code % 256) as usize) < self.count
     }
 
     fn follows(&self, cause: u64, fact: u64) -> bool
         ensures listed { λ r. ⌜ Decides r (Follows (place-meaning (book-places (now (self .entry)))) cause fact) ⌝ }
-        ensures above { λ r. ⌜ Decides r (SeatFollows (book-places (now (self .entry))) cause fact) ⌝ }
-        ensures worlds { λ r. ⌜ (known (book-places (now (self .entry))) cause ≡ true → known (book-places (now (self .entry))) fact ≡ true → Decides r (EveryWorldAgrees (book-places (now (self .entry))) cause fact)) ⌝ }
+        ensures above { λ r. ⌜ Decides r (FactFollows (book-places (now (self .entry))) cause fact) ⌝ }
+        ensures worlds { λ r. ⌜ TellsFollows (place-meaning (book-places (now (self .entry)))) cause fact r ⌝ }
     {
-        self.seat_follows(cause, fact)
+        self.fact_follows(cause, fact)
     }
 
     fn clash(&self, first: u64, second: u64) -> bool
         ensures tested { λ r. ⌜ r ≡ clash (book-places (now (self .entry))) first second ⌝ }
-        ensures apart { λ r. ⌜ Decides r (SeatsClash (book-places (now (self .entry))) first second) ⌝ }
-        ensures worlds { λ r. ⌜ (known (book-places (now (self .entry))) first ≡ true → known (book-places (now (self .entry))) second ≡ true → Decides r (NoWorldHoldsBoth (book-places (now (self .entry))) first second)) ⌝ }
+        ensures apart { λ r. ⌜ Decides r (FactsClash (book-places (now (self .entry))) first second) ⌝ }
+        ensures worlds { λ r. ⌜ TellsClash (place-meaning (book-places (now (self .entry)))) first second r ⌝ }
     {
-        self.seats_clash(first, second)
+        self.facts_clash(first, second)
     }
 
     fn count_following(&self, fact: u64) -> usize

@@ -1,11 +1,11 @@
 // Drafts of places: new, one place more, sealed.
 ghost use mathlib.Core.List.{[], _∷_, _++_};
 ghost use mathlib.Core.Path.{_≡_};
-ghost use Prim.Native.Nat.{ℕ, _≤_, _<_};
-ghost use lib.ListN.{length, getD};
+ghost use Prim.Native.Nat.{_≤_, _<_};
+ghost use lib.ListN.{length};
 ghost use Rattle.std.specs.Results.{Cases};
 ghost use Rattle.place_book.specs.Places.{ParentOf};
-ghost use Rattle.place_book.specs.Refusals.{Refused};
+ghost use Rattle.place_book.specs.Refusals.{Accepted, Refused};
 ghost use Rattle.place_book.specs.View.{draft-places, book-places};
 use crate::Draft;
 use crate::PlaceBook;
@@ -24,8 +24,9 @@ impl Draft {
     }
 
     // How many places stand.
-    pub fn count(&self) -> usize
-        ensures { λ r. ⌜ r ≡ length (draft-places (now (self .entry))) ⌝ }
+    pub fn place_count(&self) -> usize
+        ensures number { λ r. ⌜ r ≡ length (draft-places (now (self .entry))) ⌝ }
+        ensures bounds { λ r. ⌜ (0 < r) × (r ≤ 256) ⌝ }
     {
         self.count
     }
@@ -39,7 +40,7 @@ impl Draft {
 
     // A new place under `parent`: its number, which is the next free one.
     pub fn add(&mut self, parent: usize) -> Result<usize, Refusal>
-        ensures number { λ r. ⌜ Cases r (λ n. (n ≡ length (draft-places (now (self .entry)))) × (n < 256) × (parent < n)) (Refused (draft-places (now (self .entry))) parent) ⌝ }
+        ensures number { λ r. ⌜ Cases r (Accepted (draft-places (now (self .entry))) parent) (Refused (draft-places (now (self .entry))) parent) ⌝ }
         ensures places { λ r. ⌜ Cases r (λ _. draft-places (now (self .exit)) ≡ draft-places (now (self .entry)) ++ (parent ∷ [])) (λ _. now (self .exit) ≡ now (self .entry)) ⌝ }
     {
         let count = self.count;

@@ -1,5 +1,5 @@
 // A book of places: the places of a plant, each with its parent, and where things are.
-ghost use Prim.Native.Nat.{ℕ, _≤_, _<_};
+ghost use Prim.Native.Nat.{_≤_, _<_};
 ghost use lib.ListN.{take};
 ghost use Rattle.place_book.specs.Places.{ParentsAreSmaller, ParentOf};
 
@@ -11,6 +11,7 @@ pub use answers::PlaceRules;
 pub use refusals::Refusal;
 pub use refusals::RefusalDebug;
 pub use refusals::RefusalDisplay;
+pub use refusals::RefusalError;
 pub use refusals::RefusalPartialEq;
 
 // Places that are still being added. Place 0, the plant, always stands.
@@ -35,7 +36,8 @@ pub struct PlaceBook {
 
 // The parent of a place among the first `count`.
 fn parent_among(parents: &[u8; 256], count: usize, place: usize) -> Option<usize>
-    requires { ⌜ count ≤ 256 ⌝ }
+    requires few { ⌜ count ≤ 256 ⌝ }
+    requires smaller { ⌜ ParentsAreSmaller (take count (now parents)) ⌝ }
     ensures { λ r. ⌜ ParentOf (take count (now (parents .entry))) place r ⌝ }
 {
     if place == 0 || place >= count {

@@ -3,6 +3,7 @@ ghost use mathlib.Core.Path.{_≡_};
 ghost use Rattle.std.specs.declared.option.Option.the-variants.{Some};
 ghost use Rattle.place_book.specs.Refusals.{number-of, returned-by};
 ghost use Rattle.place_book.specs.Printed.{refusal-text};
+use std::error::Error;
 use std::fmt;
 
 #[derive(Clone, Copy, PartialEq, Eq, Debug)]
@@ -15,8 +16,8 @@ pub enum Refusal {
 
 impl Refusal {
     // The refusal's number.
-    pub fn number(&self) -> u8
-        ensures { λ r. ⌜ r ≡ number-of (now (self .entry)) ⌝ }
+    pub fn number(self) -> u8
+        ensures { λ r. ⌜ r ≡ number-of self ⌝ }
     {
         match self {
             Refusal::NoParent(_) => 4,
@@ -25,11 +26,11 @@ impl Refusal {
     }
 
     // What the refusal returns.
-    pub fn returned(&self) -> usize
-        ensures { λ r. ⌜ r ≡ returned-by (now (self .entry)) ⌝ }
+    pub fn returned(self) -> usize
+        ensures { λ r. ⌜ r ≡ returned-by self ⌝ }
     {
         match self {
-            Refusal::NoParent(parent) => *parent,
+            Refusal::NoParent(parent) => parent,
             Refusal::Full => 256,
         }
     }
@@ -44,3 +45,5 @@ pub impl fmt::Display for Refusal as RefusalDisplay {
         write!(f, "refused {number} {returned}")
     }
 }
+
+pub impl Error for Refusal as RefusalError {}

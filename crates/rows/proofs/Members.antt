@@ -14,6 +14,7 @@ use Rattle.std.proofs.shelf.Counted.{length-counting, getD-counting}
 use Rattle.std.proofs.shelf.Elements.{all-has, all-has-itself, all-kept-by, kept-by-passes}
 use Rattle.std.proofs.shelf.Lists.{length-map, getD-map, getD-default}
 use Rattle.std.proofs.shelf.Maps.{nth-getD, nth-past}
+use Rattle.rows.proofs.Tests.{some-not-none}
 use Rattle.std.proofs.shelf.Tests.{cases-bool, cases-lt, both-ways}
 
 -- what holds at each place holds of each member
@@ -75,11 +76,11 @@ has-counting a n c low high =
 pub nth-some : {c : ℕ} (xs : List ℕ) (k : ℕ) → Some c ≡ nth xs k → (k < length xs) × (getD xs k 0 ≡ c)
 nth-some {c} xs k e = elim (cases-lt k (length xs)) [
   | inl lt ↦ let found = nth-getD xs k 0 lt in (lt, cc)
-  | inr ge ↦ let past = nth-past xs k ge in let z : _≡_ {A = ℕ} 0 1 = cc in absurd (omega arith)
+  | inr ge ↦ absurd (some-not-none (e ∙ nth-past xs k ge))
 ]
 
 pub nth-none : (xs : List ℕ) (k : ℕ) → None ≡ nth xs k → length xs ≤ k
 nth-none xs k e = elim (cases-lt k (length xs)) [
-  | inl lt ↦ let found = nth-getD xs k 0 lt in let z : _≡_ {A = ℕ} 0 1 = cc in absurd (omega arith)
+  | inl lt ↦ absurd (some-not-none (sym (nth-getD xs k 0 lt) ∙ sym e))
   | inr ge ↦ ge
 ]

@@ -1,8 +1,8 @@
 // A plant with places 1 under 0, 2 and 3 under 1, and 4 under 0. "Thing 9 in 2" has the code 9 * 256 + 2 = 2306.
 use book::Book;
-use book::lists::first_against;
-use book::lists::first_clash;
-use book::lists::first_unknown;
+use book::first_against;
+use book::first_clash;
+use book::first_unknown;
 use place_book::Draft;
 use place_book::PlaceBook;
 use place_book::PlaceRules;
@@ -23,15 +23,15 @@ fn plant() -> Result<PlaceBook, Refusal> {
 #[test]
 fn a_new_place_gets_the_next_number() -> Result<(), Fail> {
     let mut draft = Draft::new();
-    check_eq(draft.count(), 1)?;
+    check_eq(draft.place_count(), 1)?;
     check_eq(draft.add(0), Ok(1))?;
     check_eq(draft.add(1), Ok(2))?;
-    check_eq(draft.count(), 3)?;
+    check_eq(draft.place_count(), 3)?;
     check_eq(draft.parent(2), Some(1))?;
     check_eq(draft.parent(0), None)?;
     check_eq(draft.parent(3), None)?;
     let book = draft.seal();
-    check_eq(book.count(), 3)?;
+    check_eq(book.place_count(), 3)?;
     check_eq(book.parent(2), Some(1))?;
     check_eq(book.parent(3), None)
 }
@@ -40,13 +40,13 @@ fn a_new_place_gets_the_next_number() -> Result<(), Fail> {
 fn a_missing_parent_is_refused_first() -> Result<(), Fail> {
     let mut draft = Draft::new();
     check_eq(draft.add(1), Err(Refusal::NoParent(1)))?;
-    check_eq(draft.count(), 1)?;
+    check_eq(draft.place_count(), 1)?;
     for place in 1..256 {
         check_eq(draft.add(0), Ok(place))?;
     }
     check_eq(draft.add(256), Err(Refusal::NoParent(256)))?;
     check_eq(draft.add(255), Err(Refusal::Full))?;
-    check_eq(draft.count(), 256)?;
+    check_eq(draft.place_count(), 256)?;
     check_eq(Refusal::NoParent(9).number(), 4)?;
     check_eq(Refusal::NoParent(9).returned(), 9)?;
     check_eq(Refusal::Full.number(), 5)?;
@@ -57,7 +57,7 @@ fn a_missing_parent_is_refused_first() -> Result<(), Fail> {
 fn the_places_above_follow() -> Result<(), Fail> {
     let book = plant()?;
     check_eq(book.fact(9, 2), Some(2306))?;
-    check_eq(book.seat(2306), Some((9, 2)))?;
+    check_eq(book.parts(2306), Some((9, 2)))?;
     check_eq(book.count_following(2306), 3)?;
     check_eq(book.nth_following(2306, 0), Some(2304))?;
     check_eq(book.nth_following(2306, 1), Some(2305))?;
@@ -69,7 +69,8 @@ fn the_places_above_follow() -> Result<(), Fail> {
     check(!book.follows(2306, 2049)).note("another thing")?;
     check(book.is_within(2, 1))?;
     check(!book.is_within(2, 4))?;
-    check_eq(PlaceRules::most_following(), 256)
+    check_eq(PlaceRules::most_following(), 256)?;
+    check_eq(PlaceRules::MOST_CONSEQUENCES, 256)
 }
 
 #[test]
@@ -89,7 +90,7 @@ fn of_an_unknown_code_nothing_is_said() -> Result<(), Fail> {
     check(book.knows(2308))?;
     check(!book.knows(2309)).note("no place 5 stands")?;
     check_eq(book.fact(9, 5), None)?;
-    check_eq(book.seat(2309), None)?;
+    check_eq(book.parts(2309), None)?;
     check(!book.follows(2309, 2309))?;
     check(!book.follows(2306, 2309))?;
     check(!book.clash(2309, 2306))?;

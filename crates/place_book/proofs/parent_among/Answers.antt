@@ -1,10 +1,8 @@
-use mathlib.Core.Path.{_≡_, sym}
 use native.Mathlib.Omega.{arith}
-use lib.ListN.{length, take}
-use Rattle.std.proofs.shelf.Lists.{getD-take, length-take-le}
+use Rattle.place_book.proofs.Tree.{parent-read}
 use Rattle.place_book.proofs.parent_among.Needs as need
 
 pub returns : need.returns
 returns c =
-    let n : length (take (c .args .count) (c .args .parents .now)) ≡ c .args .count = length-take-le _ _ (omega (arith, c .told-parents)) in
-    (omega arith, omega arith, sym (getD-take (c .args .count) (c .args .parents .now) (c .args .place) 0 (omega arith)))
+    let read = parent-read (c .args .count) (c .args .parents .now) (c .args .place) (c .pre .smaller) (omega (arith, c .told-parents)) (omega arith) (omega arith) in
+    (omega arith, read .0, read .1, read .2)

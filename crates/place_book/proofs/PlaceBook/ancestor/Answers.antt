@@ -1,20 +1,21 @@
 use mathlib.Core.Path.{_≡_, refl, sym, ap, _∙_}
 use native.Mathlib.Omega.{arith}
 use Prim.Native.Nat.{_+_, _<_}
-use lib.ListN.{length, getD, take}
+use lib.ListN.{length, getD}
 use Rattle.place_book.specs.Meaning.{places-around}
 use Rattle.place_book.proofs.Around.{around-many, around-length, around-keeps, around-last}
+use Rattle.place_book.specs.View.{book-places}
 use Rattle.place_book.proofs.PlaceBook.ancestor.Needs as need
 
 pub up-at-requires : need.up-at-requires
 up-at-requires c κs =
     let b = c .args .self .now in
-    (around-many (take (b .count) (b .parents)) (b .smaller) (c .loop .at) (c .loop .inv .0) (omega (arith, c .loop .inv .1, c .loop-test .taken)), c .loop .inv .0)
+    (around-many (book-places b) (b .smaller) (c .loop .at) (c .loop .inv .0) (omega (arith, c .loop .inv .1, c .loop-test .taken)), c .loop .inv .0)
 
 pub loop-again : need.loop-again
 loop-again c =
     let b = c .args .self .now in
-    let ps = take (b .count) (b .parents) in
+    let ps = book-places b in
     let at = c .loop .at in
     let inv = c .loop .inv in
     let more : 0 < at = around-many ps (b .smaller) at (inv .0) (omega (arith, inv .1, c .loop-test .taken)) in
@@ -30,4 +31,4 @@ pub returns : need.returns
 returns c =
     let b = c .args .self .now in
     let inv = c .loop .inv in
-    record { value = sym (around-last (take (b .count) (b .parents)) (b .smaller) (c .loop .at) (c .args .k) (inv .0) (omega (arith, inv .1, c .loop-test .left, c .loop .kept .counter-end, c .pre .within))) ∙ inv .2; bound = inv .3 }
+    record { value = sym (around-last (book-places b) (b .smaller) (c .loop .at) (c .args .k) (inv .0) (omega (arith, inv .1, c .loop-test .left, c .loop .kept .counter-end, c .pre .within))) ∙ inv .2; bound = inv .3 }

@@ -1,26 +1,27 @@
 use mathlib.Core.Path.{_≡_, sym, ap, _∙_}
 use native.Mathlib.Omega.{arith}
 use Prim.Native.Nat.{_+_}
-use lib.ListN.{length, getD, take}
+use lib.ListN.{length, getD}
 use Rattle.place_book.specs.Meaning.{places-around}
 use Rattle.place_book.proofs.Tree.{few-places}
 use Rattle.place_book.proofs.Around.{around-few, around-length, around-one}
+use Rattle.place_book.specs.View.{book-places}
 use Rattle.place_book.proofs.PlaceBook.depth.Needs as need
 
 pub add-count : need.add-count
 add-count c =
     let b = c .args .self .now in
-    omega (arith, c .loop-at .inv .1, around-few (take (b .count) (b .parents)) (c .args .place), few-places (b .count) (b .parents) (b .few))
+    omega (arith, c .loop-at .inv .1, around-few (book-places b) (c .args .place), few-places (b .count) (b .parents) (b .few))
 
 pub loop-at-again : need.loop-at-again
 loop-at-again c =
-    let ps = take (c .args .self .now .count) (c .args .self .now .parents) in
+    let ps = book-places (c .args .self .now) in
     let up = ap (λ p. length (places-around ps p)) (c .up-at .ensures .parent) in (
       omega (arith, c .loop-at .inv .0, c .up-at .ensures .smaller),
-      omega (arith, up, around-length ps (c .args .self .now .smaller) (c .loop-at .at) (c .loop-at-test .taken) (c .loop-at .inv .0), c .loop-at .inv .1),
+      omega (arith, up, around-length ps (c .args .self .now .smaller) (c .loop-at .at) (omega arith) (c .loop-at .inv .0), c .loop-at .inv .1),
     )
 
 pub returns : need.returns
 returns c =
     let b = c .args .self .now in
-    omega (arith, c .loop-at .inv .1, around-one (take (b .count) (b .parents)) (b .smaller) (c .loop-at .at) (c .loop-at-test .left) (c .loop-at .inv .0))
+    omega (arith, c .loop-at .inv .1, around-one (book-places b) (b .smaller) (c .loop-at .at) (omega arith) (c .loop-at .inv .0))

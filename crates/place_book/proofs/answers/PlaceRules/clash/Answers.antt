@@ -10,6 +10,6 @@ returns c =
     let b = c .args .self .now in
     let first = c .args .first in
     let second = c .args .second in
-    let r = c .seats-clash .result in
-    let same = same-from-decides r (clash (book-places b) first second) (c .seats-clash .ensures) (clash-tells (book-places b) (b .smaller) first second) in
-    record { tested = same; apart = c .seats-clash .ensures; worlds = clash-in-worlds (book-places b) (b .smaller) first second r same }
+    let r = c .facts-clash .result in
+    let same = same-from-decides r (clash (book-places b) first second) (c .facts-clash .ensures) (clash-tells (book-places b) (b .smaller) first second) in
+    record { tested = same; apart = c .facts-clash .ensures; worlds = clash-in-worlds (book-places b) (b .smaller) first second r same }

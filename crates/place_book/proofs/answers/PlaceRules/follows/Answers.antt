@@ -7,6 +7,6 @@ use Rattle.place_book.proofs.answers.PlaceRules.follows.Needs as need
 pub returns : need.returns
 returns c =
     let b = c .args .self .now in
-    let r = c .seat-follows .result in
-    let list = listed (book-places b) (b .smaller) (c .args .cause) (c .args .fact) r (c .seat-follows .ensures) in
-    record { listed = list; above = c .seat-follows .ensures; worlds = follows-in-worlds (book-places b) (b .smaller) (few-places (b .count) (b .parents) (b .few)) (c .args .cause) (c .args .fact) r list }
+    let r = c .fact-follows .result in
+    let list = listed (book-places b) (b .smaller) (c .args .cause) (c .args .fact) r (c .fact-follows .ensures) in
+    record { listed = list; above = c .fact-follows .ensures; worlds = follows-in-worlds (book-places b) (b .smaller) (few-places (b .count) (b .parents) (b .few)) (c .args .cause) (c .args .fact) r list }

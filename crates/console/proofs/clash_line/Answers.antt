@@ -3,7 +3,7 @@ use mathlib.Core.Bool.{Bool}
 use Rattle.std.specs.Of.String.{string-bytes}
 use Rattle.std.specs.Vec.{made}
 use Rattle.console.specs.Lines.{clash-text}
-use Rattle.console.proofs.clash_of.Needs as need
+use Rattle.console.proofs.clash_line.Needs as need
 
 pub returns-else-clash : need.returns-else-clash
 returns-else-clash g c =

@@ -3,7 +3,7 @@ use Prim.Native.Nat.{_-_, _≤_}
 use lib.ListN.{length, take}
 use Rattle.std.specs.Of.String.{string-bytes}
 use Rattle.console.specs.Lines.{fact-lines}
-use Rattle.console.proofs.following.Given as given
+use Rattle.console.proofs.following_lines.Given as given
 
 -- the first k facts are written
 abbrev pub Inv-loop-code : given.InvT-loop-code
