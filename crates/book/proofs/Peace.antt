@@ -1,8 +1,8 @@
 -- What the laws give of clashes and of what follows, for every book.
 use mathlib.Core.Path.{_≡_, refl, sym, subst, _∙_}
 use mathlib.Core.List.{List, [], _∷_}
-use mathlib.Core.Bool.{Bool, true, false}
-use mathlib.Core.Logic.{_⊎_, inl, inr, _↔_}
+use mathlib.Core.Bool.{true, false}
+use mathlib.Core.Logic.{inl, inr, _↔_}
 use Prim.Native.Nat.{ℕ, _≤_, _<_}
 use native.Mathlib.Omega.{arith}
 use lib.ListN.{length, getD}
@@ -10,14 +10,20 @@ use Rattle.std.specs.declared.option.Option.{Option}
 use Rattle.std.specs.declared.option.Option.the-variants.{Some, None}
 use Rattle.std.specs.shelf.Lists.{Has}
 use Rattle.std.proofs.shelf.Elements.{has-getD}
-use Rattle.std.proofs.shelf.Tests.{both-ways, cases-lt}
+use Rattle.std.proofs.shelf.Tests.{both-ways, cases-bool, cases-lt}
 use Rattle.std.proofs.shelf.Ways.{same-from-decides}
 use Rattle.rows.proofs.Tests.{false-from-not-true, some-not-none}
-use Rattle.rows.proofs.Members.{each-member, has-head, has-one}
+use Rattle.rows.proofs.Members.{each-member, has-none, has-head, has-one}
 use Rattle.book.specs.Meaning.{Meaning, Lawful, Follows, FollowsFromOne, AllKnown, NothingClashes, HoldsWherever}
 use Rattle.book.specs.Lists.{FirstAgainst, FirstClash, NoWorldHoldsAll, SomeClash, ClashIsSymmetric, CausesClash, ConsequencesDoNotClash, ConsequencesDoNotClashWith, ContradictionIsClash, TellsContradiction}
 
 module _ (m : Meaning) (most : ℕ) (law : Lawful m most) where
+  known-cause : (a c : ℕ) → Follows m a c → m .known a ≡ true
+  known-cause a c f = elim (cases-bool (m .known a)) [
+    | inl e ↦ e
+    | inr e ↦ absurd (has-none (subst (λ l. Has l c) (law .unknown-has-no-consequences a e) f))
+  ]
+
   turned : (a b : ℕ) → m .clash a b ≡ true → m .clash b a ≡ true
   turned a b e =
       let k = law .only-known-clash a b e in
@@ -29,9 +35,8 @@ module _ (m : Meaning) (most : ℕ) (law : Lawful m most) where
   pub causes-clash : CausesClash m
   causes-clash a b c f e =
       let known-b = law .only-known-clash b c e .0 in
-      let known = law .only-known-follow a c f in
-      law .clash-is-no-common-world b a known-b (known .0) .1 (λ w hb ha.
-      law .clash-is-no-common-world b c known-b (known .1) .0 e w hb (law .world-holds-what-follows a c f w ha))
+      law .clash-is-no-common-world b a known-b (known-cause a c f) .1 (λ w hb ha.
+      law .clash-is-no-common-world b c known-b (law .only-known-follow a c f) .0 e w hb (law .world-holds-what-follows a c f w ha))
 
   not-with : (l : List ℕ) (c : ℕ) → ((d : ℕ) → Has l d → m .clash d c ≡ false) → ConsequencesDoNotClashWith m l c
   not-with l c none a f = false-from-not-true (m .clash a c) (λ e.

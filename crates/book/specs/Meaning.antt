@@ -1,6 +1,6 @@
 -- What a book of rules means, and the laws that every book keeps.
 use mathlib.Core.Path.{_≡_}
-use mathlib.Core.List.{List}
+use mathlib.Core.List.{List, []}
 use mathlib.Core.Bool.{Bool, true, false}
 use mathlib.Core.Logic.{_↔_}
 use Prim.Native.Nat.{ℕ, _≤_, _<_, _^_}
@@ -53,13 +53,15 @@ pub record Lawful (m : Meaning) (most : ℕ) : Type 0 where
   pub consequences-ascend : (a : ℕ) → Ascending (m .consequences a)
   -- a known fact follows from itself
   pub itself-follows : (a : ℕ) → m .known a ≡ true → Follows m a a
-  -- only known facts follow, and nothing follows from an unknown code
-  pub only-known-follow : (a c : ℕ) → Follows m a c → (m .known a ≡ true) × (m .known c ≡ true)
+  -- only known facts follow
+  pub only-known-follow : (a c : ℕ) → Follows m a c → m .known c ≡ true
+  -- nothing follows from an unknown code
+  pub unknown-has-no-consequences : (a : ℕ) → m .known a ≡ false → m .consequences a ≡ []
   -- what follows from a following fact follows too
   pub follows-on : (a b c : ℕ) → Follows m a b → Follows m b c → Follows m a c
   -- a world that holds a fact holds everything that follows from it
   pub world-holds-what-follows : (a c : ℕ) → Follows m a c → HoldsWherever m a c
-  -- an unknown code clashes with nothing
+  -- only known facts clash
   pub only-known-clash : (a b : ℕ) → m .clash a b ≡ true → (m .known a ≡ true) × (m .known b ≡ true)
   -- two known facts, or one taken twice, clash exactly when no world holds both
   pub clash-is-no-common-world : (a b : ℕ) → m .known a ≡ true → m .known b ≡ true → (m .clash a b ≡ true) ↔ NoWorldHoldsBoth m a b

@@ -1,4 +1,4 @@
-// What the program prints, as values.
+// What the program prints, as values. A call answers an error where memory does not suffice.
 ghost use mathlib.Core.Path.{_≡_};
 ghost use Rattle.std.specs.Of.String.{string-bytes};
 ghost use Rattle.std.specs.Vec.{made};

@@ -1,20 +1,19 @@
 -- The places in which a place lies, ascending: one more at the end for each step down.
 use mathlib.Core.Path.{_≡_, refl, sym, ap, subst, _∙_}
 use mathlib.Core.List.{List, [], _∷_, _++_}
-use mathlib.Core.Bool.{Bool, true}
-use mathlib.Core.Logic.{_⊎_, inl, inr}
-use Prim.Native.Nat.{ℕ, zero, suc, _+_, _-_, _≤_, _<_}
+use mathlib.Core.Logic.{inl, inr}
+use Prim.Native.Nat.{ℕ, _+_, _-_, _≤_, _<_}
 use native.Mathlib.Omega.{arith}
 use lib.ListN.{length, getD}
 use Rattle.std.specs.Iters.{counting}
-use Rattle.std.specs.shelf.Lists.{Has, kept-by}
+use Rattle.std.specs.shelf.Lists.{Has}
 use Rattle.std.proofs.shelf.Counted.{length-counting}
 use Rattle.std.proofs.shelf.Elements.{has-append-left, has-push, has-push-cases}
 use Rattle.std.proofs.shelf.Lists.{length-push, getD-push, getD-append-left}
 use Rattle.std.proofs.shelf.Sums.{length-kept-by, countBy-le-length}
 use Rattle.std.proofs.shelf.Tests.{cases-eq, cases-lt}
 use Rattle.rows.specs.Rows.{Ascending}
-use Rattle.rows.proofs.Members.{kept-has, has-kept, counting-has, has-counting, has-head, has-one, has-none}
+use Rattle.rows.proofs.Members.{kept-has, has-kept, has-counting, has-head, has-one, has-none}
 use Rattle.rows.proofs.Ascents.{ascending-none, ascending-cons, ascending-counting, ascending-kept, ascending-push, same-rows}
 use Rattle.place_book.specs.Places.{ParentsAreSmaller, Within}
 use Rattle.place_book.specs.Places.Within.{itself, parent}

@@ -1,9 +1,9 @@
 -- The tests of the meaning tell exactly what follows and what clashes.
-use mathlib.Core.Path.{_≡_, refl, sym, ap, subst, _∙_}
+use mathlib.Core.Path.{_≡_, sym, ap, subst, _∙_}
 use mathlib.Core.List.{List, [], map}
 use mathlib.Core.Bool.{Bool, true, false, not, _&&_}
-use mathlib.Core.Logic.{_⊎_, inl, inr, _↔_}
-use Prim.Native.Nat.{ℕ, _+_, _*_, _/_, _%_, _≤_, _<_}
+use mathlib.Core.Logic.{inl, inr}
+use Prim.Native.Nat.{ℕ, _+_, _*_, _<_}
 use native.Mathlib.Omega.{arith}
 use lib.Dec.{eqb, ltb}
 use lib.ListN.{length, getD}
@@ -13,7 +13,7 @@ use Rattle.std.specs.shelf.Maps.{nth}
 use Rattle.std.specs.shelf.Lists.{Has}
 use Rattle.std.proofs.shelf.Lists.{length-map, getD-map}
 use Rattle.std.proofs.shelf.Maps.{nth-getD}
-use Rattle.std.proofs.shelf.Tests.{eqb-true, eq-eqb, ltb-true, lt-ltb, and-parts, and-from, cases-bool, both-ways, cond-true, cond-false, not-true, not-from-false}
+use Rattle.std.proofs.shelf.Tests.{eqb-true, eq-eqb, ltb-true, lt-ltb, and-parts, and-from, cases-bool, cond-true, cond-false, not-true, not-from-false}
 use Rattle.std.proofs.shelf.Ways.{not-from-decides, decides-like}
 use Rattle.rows.specs.Rows.{Ascending}
 use Rattle.rows.proofs.Ascents.{ascending-none, ascending-map}

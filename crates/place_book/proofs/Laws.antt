@@ -1,9 +1,9 @@
 -- A book of places keeps the laws of every book.
 use mathlib.Core.Path.{_≡_, refl, sym, ap, subst, _∙_}
-use mathlib.Core.List.{List, [], _∷_, map}
+use mathlib.Core.List.{List, [], _∷_}
 use mathlib.Core.Bool.{Bool, true, false, cond}
 use mathlib.Core.Logic.{_⊎_, inl, inr, _↔_}
-use Prim.Native.Nat.{ℕ, _+_, _*_, _/_, _%_, _^_, _≤_, _<_, max}
+use Prim.Native.Nat.{ℕ, _≤_, max}
 use native.Mathlib.Omega.{arith}
 use lib.Dec.{eqb}
 use lib.ListN.{length}
@@ -11,16 +11,16 @@ use Rattle.std.specs.Orderings.{Decides}
 use Rattle.std.specs.declared.option.Option.{Option}
 use Rattle.std.specs.declared.option.Option.the-variants.{Some, None}
 use Rattle.std.specs.shelf.Lists.{Has}
-use Rattle.std.proofs.shelf.Tests.{cases-bool, both-ways, eqb-true, eq-eqb, ne-eqb, cond-true, cond-false, cases-eq}
+use Rattle.std.proofs.shelf.Tests.{cases-bool, both-ways, eq-eqb, ne-eqb, cond-true, cond-false, cases-eq}
 use Rattle.std.proofs.shelf.Ways.{not-from-decides, decides-at, decides-like}
 use Rattle.rows.proofs.Members.{has-none, has-head, has-tail, has-cases, has-one}
-use Rattle.book.specs.Meaning.{Meaning, Lawful, Follows, FollowsFromOne, AllKnown, NothingClashes, TellsFollows, TellsClash}
+use Rattle.book.specs.Meaning.{Meaning, Lawful, FollowsFromOne, AllKnown, NothingClashes, TellsFollows, TellsClash}
 use Rattle.rows.proofs.Tests.{false-from-not-true, some-not-none}
 use Rattle.book.proofs.Peace.{follows-by-worlds}
 use Rattle.place_book.specs.Places.{ParentsAreSmaller, Within}
 use Rattle.place_book.specs.Places.Within.{itself}
-use Rattle.place_book.specs.Meaning.{within, places-around, consequences, clash, place-meaning}
-use Rattle.place_book.specs.Facts.{thing-of, place-of, known, World, Holds, FactFollows, FactsClash}
+use Rattle.place_book.specs.Meaning.{within, consequences, clash, place-meaning}
+use Rattle.place_book.specs.Facts.{thing-of, place-of, known, World, Holds}
 use Rattle.place_book.proofs.Tree.{within-trans, within-chain, within-le, within-tells}
 use Rattle.place_book.proofs.Around.{around-few}
 use Rattle.place_book.proofs.Facts.{known-parts, consequences-unknown, has-consequence, consequence-has, follows-known, clash-tells, ascending-consequences, consequences-count}
@@ -203,7 +203,8 @@ module _ (ps : List ℕ) (smaller : ParentsAreSmaller ps) where
     known-codes-fit = λ a e. omega (arith, known-parts ps a e .0);
     consequences-ascend = ascending-consequences ps smaller;
     itself-follows = λ a e. has-consequence ps smaller a a (record { known-cause = e; same-thing = refl; within = itself });
-    only-known-follow = λ a c h. let f = consequence-has ps smaller a c h in (f .known-cause, follows-known ps smaller a c f);
+    only-known-follow = λ a c h. follows-known ps smaller a c (consequence-has ps smaller a c h);
+    unknown-has-no-consequences = consequences-unknown ps;
     follows-on = λ a b c h k.
         let f = consequence-has ps smaller a b h in
         let g = consequence-has ps smaller b c k in

@@ -1,7 +1,7 @@
 -- Members of a list, by its places and by how the list is made.
 use mathlib.Core.Path.{_≡_, refl, sym, ap, subst, _∙_}
 use mathlib.Core.List.{List, [], _∷_, map}
-use mathlib.Core.Bool.{Bool, true, cond}
+use mathlib.Core.Bool.{Bool, true}
 use mathlib.Core.Logic.{_⊎_, inl, inr}
 use Prim.Native.Nat.{ℕ, zero, suc, _+_, _-_, _≤_, _<_}
 use native.Mathlib.Omega.{arith}
@@ -60,12 +60,6 @@ module _ (f : ℕ → ℕ) where
   pub has-map : (xs : List ℕ) (x : ℕ) → Has xs x → Has (map f xs) (f x)
   has-map xs x h =
       (h .0, omega (arith, h .1, length-map xs f), λ d. getD-map f xs (h .0) 0 d (h .1) ∙ ap f (h .2 0))
-
-pub counting-has : (a n c : ℕ) → Has (counting a n) c → (a ≤ c) × (c < a + n)
-counting-has a n c h =
-    let k : h .0 < n = omega (arith, h .1, length-counting a n) in
-    let e : c ≡ a + h .0 = sym (h .2 0) ∙ getD-counting a n (h .0) 0 k in
-    (omega arith, omega arith)
 
 pub has-counting : (a n c : ℕ) → a ≤ c → c < a + n → Has (counting a n) c
 has-counting a n c low high =

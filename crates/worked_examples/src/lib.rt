@@ -1,3 +1,5 @@
 // Examples with their sums done by hand.
 #[cfg(test)]
+mod lines;
+#[cfg(test)]
 mod places;

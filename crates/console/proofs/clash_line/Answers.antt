@@ -1,5 +1,4 @@
 use mathlib.Core.Path.{_≡_, subst}
-use mathlib.Core.Bool.{Bool}
 use Rattle.std.specs.Of.String.{string-bytes}
 use Rattle.std.specs.Vec.{made}
 use Rattle.console.specs.Lines.{clash-text}

@@ -1,7 +1,6 @@
 use borrow.Author.Needs.{needs}
 use mathlib.Core.Path.{_≡_, sym, subst}
 use native.Mathlib.Omega.{arith}
-use Prim.Native.Nat.{_<_}
 use lib.ListN.{length, take}
 use Rattle.std.proofs.shelf.Lists.{take-more-set, length-take-le}
 use Rattle.place_book.specs.Places.{ParentsAreSmaller}

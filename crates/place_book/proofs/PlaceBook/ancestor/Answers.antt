@@ -1,6 +1,6 @@
-use mathlib.Core.Path.{_≡_, refl, sym, ap, _∙_}
+use mathlib.Core.Path.{sym, ap, _∙_}
 use native.Mathlib.Omega.{arith}
-use Prim.Native.Nat.{_+_, _<_}
+use Prim.Native.Nat.{_<_}
 use lib.ListN.{length, getD}
 use Rattle.place_book.specs.Meaning.{places-around}
 use Rattle.place_book.proofs.Around.{around-many, around-length, around-keeps, around-last}

@@ -1,7 +1,6 @@
-use mathlib.Core.Path.{_≡_, sym, ap, _∙_}
+use mathlib.Core.Path.{ap}
 use native.Mathlib.Omega.{arith}
-use Prim.Native.Nat.{_+_}
-use lib.ListN.{length, getD}
+use lib.ListN.{length}
 use Rattle.place_book.specs.Meaning.{places-around}
 use Rattle.place_book.proofs.Tree.{few-places}
 use Rattle.place_book.proofs.Around.{around-few, around-length, around-one}

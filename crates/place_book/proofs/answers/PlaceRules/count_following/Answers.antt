@@ -1,8 +1,6 @@
-use mathlib.Core.Path.{_≡_, sym, ap, _∙_}
-use mathlib.Core.Bool.{true, false}
+use mathlib.Core.Path.{sym, ap, _∙_}
 use lib.ListN.{length}
 use Rattle.place_book.specs.Meaning.{consequences}
-use Rattle.place_book.specs.Facts.{known}
 use Rattle.place_book.specs.View.{book-places}
 use Rattle.place_book.proofs.Facts.{consequences-unknown, consequences-count, consequences-list}
 use Rattle.place_book.proofs.answers.PlaceRules.count_following.Needs as need

@@ -1,13 +1,10 @@
-use mathlib.Core.Path.{_≡_, sym, ap, _∙_}
-use mathlib.Core.Bool.{true}
-use mathlib.Core.Logic.{inl, inr}
+use mathlib.Core.Path.{sym, ap, _∙_}
 use native.Mathlib.Omega.{arith}
 use Prim.Native.Nat.{_+_, _*_}
-use lib.ListN.{length}
 use Rattle.std.specs.declared.option.Option.the-variants.{Some}
 use Rattle.std.proofs.shelf.Maps.{nth-past}
 use Rattle.place_book.specs.Meaning.{consequences}
-use Rattle.place_book.specs.Facts.{known, thing-of}
+use Rattle.place_book.specs.Facts.{thing-of}
 use Rattle.place_book.specs.View.{book-places}
 use Rattle.place_book.proofs.Facts.{known-parts, some-follow, consequences-count, consequences-nth, consequences-list}
 use Rattle.place_book.proofs.answers.PlaceRules.nth_following.Needs as need
