@@ -3,7 +3,7 @@ use mathlib.Core.Path.{_≡_, sym, ap, subst, _∙_}
 use mathlib.Core.List.{List, [], map}
 use mathlib.Core.Bool.{Bool, true, false, not, _&&_}
 use mathlib.Core.Logic.{inl, inr}
-use Prim.Native.Nat.{ℕ, _+_, _*_, _<_}
+use Prim.Native.Nat.{ℕ, _<_}
 use native.Mathlib.Omega.{arith}
 use lib.Dec.{eqb, ltb}
 use lib.ListN.{length, getD}
@@ -21,7 +21,7 @@ use Rattle.rows.proofs.Members.{has-none, map-has, has-map}
 use Rattle.rows.proofs.Tests.{false-from-not-true}
 use Rattle.place_book.specs.Places.{ParentsAreSmaller, Within}
 use Rattle.place_book.specs.Meaning.{within, places-around, consequences, clash}
-use Rattle.place_book.specs.Facts.{thing-of, place-of, known, FactFollows, ListsFollowing, FactsClash}
+use Rattle.place_book.specs.Facts.{code-of, thing-of, place-of, known, FactFollows, ListsFollowing, FactsClash}
 use Rattle.place_book.proofs.Tree.{within-le, within-tells}
 use Rattle.place_book.proofs.Around.{around-ascends, around-has, has-around}
 
@@ -33,7 +33,7 @@ known-parts ps c e =
 pub known-from : (ps : List ℕ) (c : ℕ) → thing-of c < 65536 → place-of c < length ps → known ps c ≡ true
 known-from ps c h k = and-from (ltb (thing-of c) 65536) _ (lt-ltb (thing-of c) 65536 h) (lt-ltb (place-of c) (length ps) k)
 
-pub consequences-known : (ps : List ℕ) (c : ℕ) → known ps c ≡ true → consequences ps c ≡ map (λ q. thing-of c * 256 + q) (places-around ps (place-of c))
+pub consequences-known : (ps : List ℕ) (c : ℕ) → known ps c ≡ true → consequences ps c ≡ map (code-of (thing-of c)) (places-around ps (place-of c))
 consequences-known ps c e = cond-true (known ps c) _ _ e
 
 pub consequences-unknown : (ps : List ℕ) (c : ℕ) → known ps c ≡ false → consequences ps c ≡ []
@@ -49,15 +49,15 @@ module _ (ps : List ℕ) (smaller : ParentsAreSmaller ps) where
   pub has-consequence : (a c : ℕ) → FactFollows ps a c → Has (consequences ps a) c
   has-consequence a c f =
       let k = known-parts ps a (f .known-cause) in
-      let e : thing-of a * 256 + place-of c ≡ c = omega (arith, f .same-thing) in
-      let m = has-map (λ q. thing-of a * 256 + q) (places-around ps (place-of a)) (place-of c) (has-around ps smaller (place-of a) (place-of c) (k .1) (f .within)) in
-      subst (λ l. Has l c) (sym (consequences-known ps a (f .known-cause))) (subst (λ z. Has (map (λ q. thing-of a * 256 + q) (places-around ps (place-of a))) z) e m)
+      let e : code-of (thing-of a) (place-of c) ≡ c = omega (arith, f .same-thing) in
+      let m = has-map (code-of (thing-of a)) (places-around ps (place-of a)) (place-of c) (has-around ps smaller (place-of a) (place-of c) (k .1) (f .within)) in
+      subst (λ l. Has l c) (sym (consequences-known ps a (f .known-cause))) (subst (λ z. Has (map (code-of (thing-of a)) (places-around ps (place-of a))) z) e m)
 
   pub consequence-has : (a c : ℕ) → Has (consequences ps a) c → FactFollows ps a c
   consequence-has a c h = elim (cases-bool (known ps a)) [
     | inl e ↦
         let k = known-parts ps a e in
-        let m = map-has (λ q. thing-of a * 256 + q) (places-around ps (place-of a)) c (subst (λ l. Has l c) (consequences-known ps a e) h) in
+        let m = map-has (code-of (thing-of a)) (places-around ps (place-of a)) c (subst (λ l. Has l c) (consequences-known ps a e) h) in
         let u = around-has ps smaller (place-of a) (m .0) (k .1) (m .1) in
         let small : m .0 < 256 = omega (arith, within-le ps smaller u) in
         let place : m .0 ≡ place-of c = omega (arith, m .2) in
@@ -105,7 +105,7 @@ module _ (ps : List ℕ) (smaller : ParentsAreSmaller ps) where
 
   pub ascending-consequences : (a : ℕ) → Ascending (consequences ps a)
   ascending-consequences a = elim (cases-bool (known ps a)) [
-    | inl e ↦ subst Ascending (sym (consequences-known ps a e)) (ascending-map (λ q. thing-of a * 256 + q) (λ x y h. omega arith) (places-around ps (place-of a)) (around-ascends ps (place-of a)))
+    | inl e ↦ subst Ascending (sym (consequences-known ps a e)) (ascending-map (code-of (thing-of a)) (λ x y h. omega arith) (places-around ps (place-of a)) (around-ascends ps (place-of a)))
     | inr e ↦ subst Ascending (sym (consequences-unknown ps a e)) ascending-none
   ]
 
@@ -114,9 +114,9 @@ module _ (ps : List ℕ) (smaller : ParentsAreSmaller ps) where
 
   -- how many follow, and number k of them
   pub consequences-count : (a : ℕ) → known ps a ≡ true → length (consequences ps a) ≡ length (places-around ps (place-of a))
-  consequences-count a e = ap length (consequences-known ps a e) ∙ length-map (places-around ps (place-of a)) (λ q. thing-of a * 256 + q)
+  consequences-count a e = ap length (consequences-known ps a e) ∙ length-map (places-around ps (place-of a)) (code-of (thing-of a))
 
-  pub consequences-nth : (a k : ℕ) → known ps a ≡ true → k < length (places-around ps (place-of a)) → nth (consequences ps a) k ≡ Some (thing-of a * 256 + getD (places-around ps (place-of a)) k 0)
+  pub consequences-nth : (a k : ℕ) → known ps a ≡ true → k < length (places-around ps (place-of a)) → nth (consequences ps a) k ≡ Some (code-of (thing-of a) (getD (places-around ps (place-of a)) k 0))
   consequences-nth a k e lt =
       nth-getD (consequences ps a) k 0 (omega (arith, consequences-count a e))
-      ∙ ap Some (ap (λ l. getD l k 0) (consequences-known ps a e) ∙ getD-map (λ q. thing-of a * 256 + q) (places-around ps (place-of a)) k 0 0 lt)
+      ∙ ap Some (ap (λ l. getD l k 0) (consequences-known ps a e) ∙ getD-map (code-of (thing-of a)) (places-around ps (place-of a)) k 0 0 lt)

@@ -24,7 +24,7 @@ places-around ps p = kept-by (within ps p) (counting 0 (length ps))
 
 -- what follows from a fact, ascending
 abbrev pub consequences : List ℕ → ℕ → List ℕ
-consequences ps c = cond (known ps c) (map (λ q. code-of (thing-of c) q) (places-around ps (place-of c))) []
+consequences ps c = cond (known ps c) (map (code-of (thing-of c)) (places-around ps (place-of c))) []
 
 -- whether two facts clash
 abbrev pub clash : List ℕ → ℕ → ℕ → Bool

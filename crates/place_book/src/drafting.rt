@@ -50,13 +50,23 @@ impl Draft {
         if count >= 256 {
             return Err(Refusal::Full);
         }
+        *self = self.grown(parent);
+        Ok(count)
+    }
+
+    // These places with one more under a parent that stands.
+    fn grown(&self, parent: usize) -> Draft
+        requires stands { ⌜ parent < length (draft-places (now self)) ⌝ }
+        requires room { ⌜ length (draft-places (now self)) < 256 ⌝ }
+        ensures { λ r. ⌜ draft-places r ≡ draft-places (now (self .entry)) ++ (parent ∷ []) ⌝ }
+    {
+        let count = self.count;
         let mut parents = self.parents;
         parents[count] = parent as u8;
-        *self = Draft {
+        Draft {
             parents,
             count: count + 1,
-        };
-        Ok(count)
+        }
     }
 
     // The book of these places.

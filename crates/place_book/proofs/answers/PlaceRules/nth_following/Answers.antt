@@ -1,10 +1,9 @@
 use mathlib.Core.Path.{sym, ap, _∙_}
 use native.Mathlib.Omega.{arith}
-use Prim.Native.Nat.{_+_, _*_}
 use Rattle.std.specs.declared.option.Option.the-variants.{Some}
 use Rattle.std.proofs.shelf.Maps.{nth-past}
 use Rattle.place_book.specs.Meaning.{consequences}
-use Rattle.place_book.specs.Facts.{thing-of}
+use Rattle.place_book.specs.Facts.{code-of, thing-of}
 use Rattle.place_book.specs.View.{book-places}
 use Rattle.place_book.proofs.Facts.{known-parts, some-follow, consequences-count, consequences-nth, consequences-list}
 use Rattle.place_book.proofs.answers.PlaceRules.nth_following.Needs as need
@@ -30,5 +29,5 @@ returns c =
     let b = c .args .self .now in
     let count = c .count-following-count .ensures .listed in
     let knows = some-follow (book-places b) (c .args .fact) (omega (arith, count, c .if-k-count .left)) in
-    let nth = ap (λ p. Some (thing-of (c .args .fact) * 256 + p)) (c .ancestor-place .ensures .value) ∙ sym (consequences-nth (book-places b) (b .smaller) (c .args .fact) (c .args .k) knows (omega (arith, count, c .if-k-count .left, consequences-count (book-places b) (b .smaller) (c .args .fact) knows))) in
+    let nth = ap (λ p. Some (code-of (thing-of (c .args .fact)) p)) (c .ancestor-place .ensures .value) ∙ sym (consequences-nth (book-places b) (b .smaller) (c .args .fact) (c .args .k) knows (omega (arith, count, c .if-k-count .left, consequences-count (book-places b) (b .smaller) (c .args .fact) knows))) in
     record { listed = nth; above = (consequences (book-places b) (c .args .fact), consequences-list (book-places b) (b .smaller) (c .args .fact), nth) }
