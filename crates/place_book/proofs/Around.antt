@@ -81,3 +81,13 @@ module _ (ps : List ℕ) (smaller : ParentsAreSmaller ps) where
 
   pub around-one : (p : ℕ) → p ≤ 0 → p < length ps → length (places-around ps p) ≡ 1
   around-one p le k = let e : p ≡ 0 = omega arith in ap (λ x. length (places-around ps x)) e ∙ ap length (around-plant (omega arith))
+
+-- A climb from `place`, which lies in `depth` places, toward number k of them, at turn `turn` of those from k + 1 on.
+pub record Reached (ps : List ℕ) (place depth k at turn : ℕ) : Type 0 where
+  pub stands : at < length ps
+  -- one place less for each turn
+  pub fewer : length (places-around ps at) + turn ≡ depth + k + 1
+  -- number k is the same
+  pub same : getD (places-around ps at) k 0 ≡ getD (places-around ps place) k 0
+  pub bound : at ≤ place
+  pub turns : turn ≤ depth
