@@ -38,7 +38,7 @@ impl Draft {
         parent_among(&self.parents, self.count, place)
     }
 
-    // A new place under `parent`: its number, which is the next free one.
+    // A new place under `parent`: its number, the next free one, or a refusal, which leaves the draft as it was.
     pub fn add(&mut self, parent: usize) -> Result<usize, Refusal>
         ensures number { λ r. ⌜ Cases r (Accepted (draft-places (now (self .entry))) parent) (Refused (draft-places (now (self .entry))) parent) ⌝ }
         ensures places { λ r. ⌜ Cases r (λ _. draft-places (now (self .exit)) ≡ draft-places (now (self .entry)) ++ (parent ∷ [])) (λ _. now (self .exit) ≡ now (self .entry)) ⌝ }
