@@ -1,19 +1,30 @@
 -- Rows that ascend: how they are made, and that their members fix them.
 use mathlib.Core.Path.{_≡_, refl, sym, ap, subst, _∙_}
 use mathlib.Core.List.{List, [], _∷_, _++_, map}
-use mathlib.Core.Bool.{Bool}
+use mathlib.Core.Bool.{Bool, false}
 use mathlib.Core.Logic.{inl, inr}
-use Prim.Native.Nat.{ℕ, zero, suc, _+_, _-_, _<_}
+use Prim.Native.Nat.{ℕ, zero, suc, _+_, _-_, _≤_, _<_}
 use native.Mathlib.Omega.{arith}
 use lib.ListN.{length, getD}
 use Rattle.std.specs.Iters.{counting}
+use Rattle.std.specs.Orderings.{Decides}
+use Rattle.std.specs.Results.{isOk}
+use Rattle.std.specs.declared.result.Result.{Result}
+use Rattle.std.specs.declared.result.Result.the-variants.{Ok, Err}
 use Rattle.std.specs.shelf.Lists.{Has, kept-by}
 use Rattle.std.proofs.shelf.Counted.{length-counting, getD-counting}
-use Rattle.std.proofs.shelf.Elements.{has-getD}
+use Rattle.std.proofs.shelf.Elements.{has-getD, has-append-left}
 use Rattle.std.proofs.shelf.Lists.{length-map, length-push, getD-map, getD-push, getD-append-left}
-use Rattle.std.proofs.shelf.Tests.{cases-bool, cases-lt}
-use Rattle.rows.specs.Rows.{Ascending}
-use Rattle.rows.proofs.Members.{has-none, has-head, has-tail, has-cases, kept-has}
+use Rattle.std.proofs.shelf.Tests.{both-ways, cases-bool, cases-lt}
+use Rattle.rows.specs.Rows.{Ascending, Placed}
+use Rattle.rows.proofs.Members.{has-none, has-head, has-tail, has-cases, has-append-cases, kept-has}
+
+-- what stands no further back is no larger
+pub ascending-up : (xs : List ℕ) → Ascending xs → (i j : ℕ) → i ≤ j → j < length xs → getD xs i 0 ≤ getD xs j 0
+ascending-up xs up i j h k = elim (cases-lt i j) [
+  | inl l ↦ omega (arith, up i j l k)
+  | inr l ↦ let e : i ≡ j = omega arith in omega (arith, ap (λ n. getD xs n 0) e)
+]
 
 pub ascending-none : Ascending []
 ascending-none i j h k = absurd (omega arith)
@@ -29,6 +40,23 @@ ascending-tail x xs up i j h k = up (suc i) (suc j) (omega arith) (omega arith)
 
 pub ascending-head : (x : ℕ) (xs : List ℕ) → Ascending (x ∷ xs) → (c : ℕ) → Has xs c → x < c
 ascending-head x xs up c h = subst (λ y. x < y) (h .2 0) (up 0 (suc (h .0)) (omega arith) (omega (arith, h .1)))
+
+-- two rows, one above the other
+pub ascending-append : (xs ys : List ℕ) → Ascending xs → Ascending ys → ((x y : ℕ) → Has xs x → Has ys y → x < y) → Ascending (xs ++ ys)
+ascending-append [] ys up vp apart = vp
+ascending-append (x ∷ xs) ys up vp apart =
+    ascending-cons x (xs ++ ys) (ascending-append xs ys (ascending-tail x xs up) vp (λ a b h k. apart a b (has-tail x xs h) k)) (λ c h. elim (has-append-cases xs ys h) [
+      | inl l ↦ ascending-head x xs up c l
+      | inr r ↦ apart x c (has-head x xs) r
+    ])
+
+pub ascending-front : (xs ys : List ℕ) → Ascending (xs ++ ys) → Ascending xs
+ascending-front [] ys up = ascending-none
+ascending-front (x ∷ xs) ys up = ascending-cons x xs (ascending-front xs ys (ascending-tail x (xs ++ ys) up)) (λ c h. ascending-head x (xs ++ ys) up c (has-append-left xs ys c h))
+
+pub ascending-back : (xs ys : List ℕ) → Ascending (xs ++ ys) → Ascending ys
+ascending-back [] ys up = up
+ascending-back (x ∷ xs) ys up = ascending-back xs ys (ascending-tail x (xs ++ ys) up)
 
 pub ascending-kept : (p : ℕ → Bool) (xs : List ℕ) → Ascending xs → Ascending (kept-by p xs)
 ascending-kept p [] up = up
@@ -81,3 +109,14 @@ same-rows (x ∷ xs) (y ∷ ys) up vp to from =
       | inr r ↦ r
     ] in
     ap (λ z. z ∷ xs) e ∙ ap (λ zs. y ∷ zs) (same-rows xs ys (ascending-tail x xs up) (ascending-tail y ys vp) to′ from′)
+
+-- a search tells whether a row has the number
+pub placed-tells : (xs : List ℕ) (c : ℕ) (r : Result ℕ ℕ) → Placed xs c r → Decides (isOk r) (Has xs c)
+placed-tells xs c (Ok i) found = ((λ e. subst (Has xs) (found .1) (has-getD xs i 0 (found .0))), λ h. refl)
+placed-tells xs c (Err i) missing = (
+  (λ e. absurd (both-ways false refl e)),
+  λ h. absurd (elim (cases-lt (h .0) i) [
+    | inl l ↦ omega (arith, missing .1 (h .0) l, h .2 0)
+    | inr l ↦ omega (arith, missing .2 (h .0) l (h .1), h .2 0)
+  ]),
+)

@@ -1,6 +1,6 @@
 -- Members of a list, by its places and by how the list is made.
 use mathlib.Core.Path.{_≡_, refl, sym, ap, subst, _∙_}
-use mathlib.Core.List.{List, [], _∷_, map}
+use mathlib.Core.List.{List, [], _∷_, _++_, map}
 use mathlib.Core.Bool.{Bool, true}
 use mathlib.Core.Logic.{_⊎_, inl, inr}
 use Prim.Native.Nat.{ℕ, zero, suc, _+_, _-_, _≤_, _<_}
@@ -36,6 +36,13 @@ has-at x c xs (suc k) h at = inr (k, omega arith, at)
 
 pub has-cases : {c : ℕ} (x : ℕ) (xs : List ℕ) → Has (x ∷ xs) c → (x ≡ c) ⊎ Has xs c
 has-cases {c} x xs h = has-at x c xs (h .0) (h .1) (h .2)
+
+pub has-append-cases : {c : ℕ} (xs ys : List ℕ) → Has (xs ++ ys) c → Has xs c ⊎ Has ys c
+has-append-cases [] ys h = inr h
+has-append-cases (x ∷ xs) ys h = elim (has-cases x (xs ++ ys) h) [
+  | inl e ↦ inl (subst (Has (x ∷ xs)) e (has-head x xs))
+  | inr r ↦ elim (has-append-cases xs ys r) [ inl l ↦ inl (has-tail x xs l) | inr k ↦ inr k ]
+]
 
 pub has-one : {c : ℕ} (x : ℕ) → Has (x ∷ []) c → x ≡ c
 has-one x h = elim (has-cases x [] h) [ inl e ↦ e | inr r ↦ absurd (has-none r) ]
