@@ -1,0 +1,56 @@
+-- How many numbers a row has at most, and how many facts come at most.
+use mathlib.Core.Path.{refl}
+use mathlib.Core.List.{List, [], _∷_}
+use mathlib.Core.Bool.{not}
+use mathlib.Core.Logic.{inl, inr}
+use Prim.Native.Nat.{ℕ, _*_, _≤_}
+use native.Mathlib.Nat.{suc-mul, mul-le-mul-right}
+use native.Mathlib.Omega.{arith}
+use lib.Dec.{eqb}
+use lib.ListN.{length}
+use Rattle.std.specs.shelf.Lists.{Has, joined}
+use Rattle.std.proofs.shelf.Elements.{has-append-left, has-append-right}
+use Rattle.std.proofs.shelf.Filters.{length-kept-by-both}
+use Rattle.std.proofs.shelf.Lists.{length-append}
+use Rattle.std.proofs.shelf.Tests.{eq-eqb, ne-eqb, not-from-false}
+use Rattle.rows.specs.Rows.{Ascending, Count}
+use Rattle.rows.proofs.Members.{has-none, has-head, has-tail, has-cases, has-kept}
+use Rattle.rows.proofs.Ascents.{ascending-tail, ascending-head}
+use Rattle.book.specs.Meaning.{Meaning, Lawful, FollowsFromOne}
+use Rattle.table.specs.Descent.{Comes}
+
+-- a row has no more numbers than a list that has them all
+pub row-within : (xs ys : List ℕ) → Ascending xs → ((c : ℕ) → Has xs c → Has ys c) → length xs ≤ length ys
+row-within [] ys up in′ = omega arith
+row-within (x ∷ xs) ys up in′ =
+    let rest = row-within xs _ (ascending-tail x xs up) (λ c h.
+    has-kept (λ y. not (eqb x y)) ys c (in′ c (has-tail x xs h)) (not-from-false (eqb x c) (ne-eqb x c (λ e. omega (arith, ascending-head x xs up c h))))) in
+    let itself = has-kept (eqb x) ys x (in′ x (has-head x xs)) (eq-eqb x x refl) in
+    omega (arith, rest, itself .1, length-kept-by-both (eqb x) (λ y. not (eqb x y)) (λ _. refl) ys)
+
+module _ (m : Meaning) (most : ℕ) (law : Lawful m most) where
+  -- what follows from one of the list is among the consequences of all of them
+  has-consequence : (list : List ℕ) (c : ℕ) → FollowsFromOne m list c → Has (joined (m .consequences) list) c
+  has-consequence [] c f = absurd (has-none (f .1))
+  has-consequence (x ∷ xs) c f = elim (has-cases x xs (f .1)) [
+    | inl e ↦ has-append-left (m .consequences x) _ c (rw e (f .2))
+    | inr h ↦ has-append-right (m .consequences x) _ c (has-consequence xs c (f .0, h, f .2))
+  ]
+
+  few-consequences : (list : List ℕ) → length (joined (m .consequences) list) ≤ length list * most
+  few-consequences [] = omega arith
+  few-consequences (x ∷ xs) = omega (arith, few-consequences xs, law .at-most-follow x, length-append (m .consequences x) (joined (m .consequences) xs), suc-mul (length xs) most)
+
+  -- at most `most` follow for each of the list
+  pub follow-few : (list xs : List ℕ) → Ascending xs → ((c : ℕ) → Has xs c → FollowsFromOne m list c) → length xs ≤ length list * most
+  follow-few list xs up each = omega (arith, few-consequences list, row-within xs (joined (m .consequences) list) up (λ c h. has-consequence list c (each c h)))
+
+  -- which is a small number for a list that is short
+  pub follow-small : (list xs : List ℕ) → length list ≤ 256 → Ascending xs → ((c : ℕ) → Has xs c → FollowsFromOne m list c) → length xs ≤ 16777216
+  follow-small list xs short up each = omega (arith, follow-few list xs up each, mul-le-mul-right most short, law .most-is-small)
+
+  pub comes-few : (list row : List ℕ) (n : ℕ) → Count (Comes m list row) n → n ≤ length list * most
+  comes-few list row n count = omega (arith, count .2, follow-few list (count .0) (count .1 .ascends) (λ c h. count .1 .members c .0 h .0))
+
+  pub comes-small : (list row : List ℕ) (n : ℕ) → length list ≤ 256 → Count (Comes m list row) n → n ≤ 16777216
+  comes-small list row n short count = omega (arith, count .2, follow-small list (count .0) short (count .1 .ascends) (λ c h. count .1 .members c .0 h .0))

@@ -1,0 +1,13 @@
+pub mod Cells
+pub mod Tests
+pub mod Few
+pub mod Descents
+pub mod Placings
+pub mod Entries
+pub mod Merging
+pub mod Deliveries
+pub mod Changes
+pub mod Worlds
+pub mod Runs
+pub mod Determined
+pub mod Journals

@@ -1,0 +1,13 @@
+use denote.Ref.{now}
+use Rattle.std.proofs.shelf.Ways.{same-from-decides}
+use Rattle.table.specs.Checks.{stays}
+use Rattle.table.proofs.Tests.{stays-tells, against-tells}
+use Rattle.table.proofs.delivering.CompatibleTest.passes.Needs as need
+
+pub returns : need.returns
+returns g c =
+    let m = g .B·Book .meaning (now (c .args .self .now .book)) in
+    let list = now (c .args .self .now .list) in
+    same-from-decides (c .is-none .result) (stays m list (c .args .c))
+    (against-tells m list (c .args .c) (c .first-against .result) (c .is-none .result) (c .first-against .ensures .first) (c .is-none .ensures))
+    (stays-tells m list (c .args .c))

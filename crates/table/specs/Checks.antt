@@ -1,0 +1,60 @@
+-- The steps of a delivery: tests of a held fact, and what is found before anything is written.
+use mathlib.Core.Path.{_≡_}
+use mathlib.Core.List.{List, [], _∷_, _++_}
+use mathlib.Core.Bool.{Bool, false, not, _||_}
+use mathlib.Core.Logic.{_⊎_}
+use Prim.Native.Nat.{ℕ, _+_, _≤_, _<_}
+use lib.Dec.{eqb}
+use lib.ListN.{length, getD, take, drop}
+use Rattle.std.specs.declared.option.Option.the-variants.{Some}
+use Rattle.std.specs.shelf.Lists.{Has, kept-by}
+use Rattle.rows.specs.Rows.{Count}
+use Rattle.book.specs.Meaning.{Meaning, NothingClashes}
+use Rattle.book.specs.Lists.{FirstClash}
+use Rattle.table.specs.Facts.{Readable}
+use Rattle.table.specs.Refusals.{Says}
+use Rattle.table.specs.Descent.{Comes}
+use Rattle.table.specs.declared.refusals.Refusal.{Refusal}
+
+-- whether some number of the list passes the test
+abbrev pub any : (ℕ → Bool) → List ℕ → Bool
+any p [] = false
+any p (x ∷ xs) = p x || any p xs
+
+-- whether c clashes with none of the list
+abbrev pub stays : Meaning → List ℕ → ℕ → Bool
+stays m list c = not (any (λ d. m .clash d c) list)
+
+-- whether none of the list follows from c
+abbrev pub untouched : Meaning → List ℕ → ℕ → Bool
+untouched m list c = not (any (λ d. any (eqb d) (m .consequences c)) list)
+
+-- number 8 and the places of the first two facts that clash
+abbrev pub ClashRefused : Meaning → List ℕ → Refusal → Type 0
+ClashRefused m list e = (p : ℕ × ℕ) × FirstClash m list (Some p) × Says e 8 (p .0 ∷ (p .1 ∷ []))
+
+-- a delivery that can be entered: `come` facts come, and there is room
+pub record Enterable (m : Meaning) (list old : List ℕ) (size come : ℕ) : Type 0 where
+  pub readable : Readable m list
+  pub nothing-clashes : NothingClashes m list
+  pub coming : Count (Comes m list old) come
+  pub room : length (kept-by (stays m list) old) + come ≤ size
+
+-- of the row, the first `stay` are below the code, those from `above` on are above it, and between them stands the code or nothing
+pub record Around (row : List ℕ) (code stay above : ℕ) : Type 0 where
+  pub within : above ≤ length row
+  pub below : (k : ℕ) → k < stay → getD row k 0 < code
+  pub beyond : (k : ℕ) → above ≤ k → k < length row → code < getD row k 0
+  pub between : (above ≡ stay) ⊎ ((above ≡ stay + 1) × (getD row stay 0 ≡ code))
+
+-- a code finds its place between the numbers of a row: those below stay, those above move up before what stood there
+pub record Placing (old new : List ℕ) (below top code stay free : ℕ) : Type 0 where
+  pub lows : List ℕ
+  pub highs : List ℕ
+  pub row : (take below old ≡ lows ++ highs) ⊎ (take below old ≡ lows ++ (code ∷ highs))
+  pub lows-below : (x : ℕ) → Has lows x → x < code
+  pub highs-above : (x : ℕ) → Has highs x → code < x
+  pub stay-is : stay ≡ length lows
+  pub free-is : free + (1 + length highs) ≡ top
+  pub front : take stay new ≡ lows
+  pub back : drop free new ≡ code ∷ (highs ++ drop top old)

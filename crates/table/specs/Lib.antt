@@ -1,0 +1,10 @@
+pub mod Cells
+pub mod Facts
+pub mod Refusals
+pub mod Printed
+pub mod Descent
+pub mod Checks
+pub mod Calls
+pub mod Worlds
+pub mod View
+pub mod Runs

@@ -1,0 +1,33 @@
+// Whether a list can be carried out.
+ghost use Rattle.std.specs.Results.{Cases};
+ghost use Rattle.book.specs.Meaning.{NothingClashes};
+ghost use Rattle.table.specs.Facts.{Readable};
+ghost use Rattle.table.specs.Refusals.{ListRefused};
+ghost use Rattle.table.specs.Checks.{ClashRefused};
+use crate::Refusal;
+use book::Book;
+use book::first_clash;
+use book::first_unknown;
+
+// At most 256 codes, all known.
+pub fn check_list<B: Book>(book: &B, list: &[u64]) -> Result<(), Refusal>
+    ensures { λ r. ⌜ Cases r (λ _. Readable (meaning (now (book .entry))) (now (list .entry))) (ListRefused (meaning (now (book .entry))) (now (list .entry))) ⌝ }
+{
+    if list.len() > 256 {
+        return Err(Refusal::TooLong(list.len()));
+    }
+    match first_unknown(book, list) {
+        Some(place) => Err(Refusal::Unknown(place)),
+        None => Ok(()),
+    }
+}
+
+// Of a list that can be read: no two facts clash, and none clashes with itself.
+pub fn check_clash<B: Book>(book: &B, list: &[u64]) -> Result<(), Refusal>
+    ensures { λ r. ⌜ Cases r (λ _. NothingClashes (meaning (now (book .entry))) (now (list .entry))) (ClashRefused (meaning (now (book .entry))) (now (list .entry))) ⌝ }
+{
+    match first_clash(book, list) {
+        Some(places) => Err(Refusal::Clash(places)),
+        None => Ok(()),
+    }
+}

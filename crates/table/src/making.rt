@@ -1,0 +1,21 @@
+// The making of a table.
+ghost use mathlib.Core.Path.{_≡_};
+ghost use mathlib.Core.List.{[]};
+ghost use denote.Ref.{name};
+ghost use Rattle.table.specs.Cells.{laid};
+ghost use Rattle.table.specs.View.{cells-of, facts-of};
+use crate::Table;
+
+impl<'a> Table<'a> {
+    // A table that holds nothing, over these cells: those that it uses become 0.
+    pub fn over(cells: &'a mut [u64]) -> Table<'a>
+        ensures facts { λ r. ⌜ facts-of r ≡ [] ⌝ }
+        ensures cells { λ r. ⌜ cells-of r ≡ laid [] (now (cells .entry)) ⌝ }
+        ensures named { λ r. ⌜ name (r .cells) ≡ name (cells .entry) ⌝ }
+    {
+        for i in 0..cells.len().min(65536) {
+            cells[i] = 0;
+        }
+        Table { cells, held: 0 }
+    }
+}
