@@ -9,6 +9,8 @@ use Rattle.std.specs.declared.result.Result.{Result}
 use Rattle.std.specs.declared.result.Result.the-variants.{Ok, Err}
 use Rattle.place_book.specs.Printed.{refusal-text}
 use Rattle.place_book.specs.declared.refusals.Refusal.{Refusal}
+use Rattle.table.specs.Printed as printed
+use Rattle.table.specs.declared.refusals.Refusal as table
 
 -- the number of a new place, as `place 1`, or the refusal
 abbrev pub added-text : Result ℕ Refusal → List ℕ
@@ -28,3 +30,8 @@ listing-text cs = fact-lines cs ++ (codes "end " ++ decimal (length cs))
 abbrev pub clash-text : ℕ → ℕ → Bool → List ℕ
 clash-text a b true = decimal a ++ (codes " and " ++ (decimal b ++ codes " clash"))
 clash-text a b false = decimal a ++ (codes " and " ++ (decimal b ++ codes " do not clash"))
+
+-- what a delivery or a withdrawal answers: the numbers of facts gone and come, as `ok 1 2`, or the refusal
+abbrev pub changed-text : Result (ℕ × ℕ) table.Refusal → List ℕ
+changed-text (Ok counts) = codes "ok " ++ (decimal (counts .0) ++ (codes " " ++ decimal (counts .1)))
+changed-text (Err e) = printed.refusal-text e

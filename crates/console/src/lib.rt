@@ -3,6 +3,12 @@ ghost use mathlib.Core.Path.{_≡_};
 ghost use Rattle.std.specs.Of.String.{string-bytes};
 ghost use Rattle.std.specs.Vec.{made};
 ghost use Rattle.console.specs.Lines.{added-text, listing-text, clash-text};
+
+mod tables;
+
+pub use tables::changed_line;
+pub use tables::held_lines;
+
 use book::Book;
 use place_book::Refusal;
 use place_book::RefusalDisplay;

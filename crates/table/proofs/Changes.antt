@@ -12,11 +12,11 @@ use Rattle.std.proofs.shelf.Lists.{length-take-le}
 use Rattle.std.proofs.shelf.Tests.{both-ways, not-true, not-from-false}
 use Rattle.rows.specs.Rows.{Ascending, RowOf, Count}
 use Rattle.rows.proofs.Ascents.{ascending-kept}
-use Rattle.rows.proofs.Members.{kept-has, has-kept}
+use Rattle.rows.proofs.Members.{has-none, kept-has, has-kept}
 use Rattle.rows.proofs.Tests.{false-from-not-true}
 use Rattle.book.specs.Meaning.{Meaning, Lawful, FollowsFromOne}
 use Rattle.table.specs.Cells.{used, laid}
-use Rattle.table.specs.Facts.{AfterDelivery, AfterWithdrawal, OnlyIn}
+use Rattle.table.specs.Facts.{AfterDelivery, AfterWithdrawal, OnlyIn, UnknownStay}
 use Rattle.table.specs.Checks.{stays, untouched, Enterable}
 use Rattle.table.specs.Descent.{Comes}
 use Rattle.table.proofs.Cells.{Kept, kept-at, facts-at, laid-laid, used-laid}
@@ -125,3 +125,7 @@ module _ (cells : List ℕ) (held : ℕ) (fits : held ≤ used cells) (up : Asce
           },
           omega (arith, number, held-long, length-kept-by-both (untouched m list) goes (λ _. refl) (take held cells)),
         )
+
+-- from a code that the book does not know nothing follows
+pub unknown-left : (m : Meaning) (most : ℕ) (law : Lawful m most) (list old new : List ℕ) → RowOf (AfterWithdrawal m list old) new → UnknownStay m old new
+unknown-left m most law list old new leaves c unknown h = leaves .members c .1 (h, λ d k f. has-none (subst (λ l. Has l d) (law .unknown-has-no-consequences c unknown) f))

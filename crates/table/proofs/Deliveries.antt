@@ -18,7 +18,7 @@ use Rattle.rows.proofs.Members.{has-none, has-head, has-tail, has-cases, has-ap
 use Rattle.rows.proofs.Tests.{false-from-not-true}
 use Rattle.book.specs.Meaning.{Meaning, Lawful, FollowsFromOne, NothingClashes}
 use Rattle.book.proofs.Peace.{causes-clash}
-use Rattle.table.specs.Facts.{ClashesWithNone, AfterDelivery, OnlyIn, Readable}
+use Rattle.table.specs.Facts.{ClashesWithNone, AfterDelivery, OnlyIn, UnknownStay, Readable}
 use Rattle.table.specs.Refusals.{DeliveryRefused}
 use Rattle.table.specs.declared.refusals.Refusal.the-variants.{Full}
 use Rattle.table.specs.Checks.{stays}
@@ -92,6 +92,10 @@ row-of-both xs (y ∷ ys) up vp apart =
       },
       omega (arith, s .2, r .2),
     )
+
+-- a code that the book does not know clashes with nothing
+pub unknown-stays : (m : Meaning) (most : ℕ) (law : Lawful m most) (list old new : List ℕ) → RowOf (AfterDelivery m list old) new → UnknownStay m old new
+unknown-stays m most law list old new leaves c unknown h = leaves .members c .1 (inr (h, λ d k. false-from-not-true (m .clash d c) (λ e. both-ways (m .known c) unknown (law .only-known-clash d c e .1))))
 
 module _ (m : Meaning) (most : ℕ) (law : Lawful m most) (list old : List ℕ) (peace : NothingClashes m list) (up : Ascending old) where
   -- what follows from a delivered fact clashes with none of them

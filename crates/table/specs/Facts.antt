@@ -24,6 +24,10 @@ AfterDelivery m list old c = FollowsFromOne m list c ⊎ (Has old c × ClashesWi
 abbrev pub AfterWithdrawal : Meaning → List ℕ → List ℕ → ℕ → Type 0
 AfterWithdrawal m list old c = Has old c × LeadsToNone m list c
 
+-- a held code that the book does not know stays
+abbrev pub UnknownStay : Meaning → List ℕ → List ℕ → Type 0
+UnknownStay m old new = (c : ℕ) → m .known c ≡ false → Has old c → Has new c
+
 -- c stands in the first list only
 abbrev pub OnlyIn : List ℕ → List ℕ → ℕ → Type 0
 OnlyIn these those c = Has these c × (Has those c → ⊥)

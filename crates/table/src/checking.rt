@@ -10,7 +10,7 @@ use book::first_clash;
 use book::first_unknown;
 
 // At most 256 codes, all known.
-pub fn check_list<B: Book>(book: &B, list: &[u64]) -> Result<(), Refusal>
+pub(crate) fn check_list<B: Book>(book: &B, list: &[u64]) -> Result<(), Refusal>
     ensures { λ r. ⌜ Cases r (λ _. Readable (meaning (now (book .entry))) (now (list .entry))) (ListRefused (meaning (now (book .entry))) (now (list .entry))) ⌝ }
 {
     if list.len() > 256 {
@@ -23,7 +23,7 @@ pub fn check_list<B: Book>(book: &B, list: &[u64]) -> Result<(), Refusal>
 }
 
 // Of a list that can be read: no two facts clash, and none clashes with itself.
-pub fn check_clash<B: Book>(book: &B, list: &[u64]) -> Result<(), Refusal>
+pub(crate) fn check_clash<B: Book>(book: &B, list: &[u64]) -> Result<(), Refusal>
     ensures { λ r. ⌜ Cases r (λ _. NothingClashes (meaning (now (book .entry))) (now (list .entry))) (ClashRefused (meaning (now (book .entry))) (now (list .entry))) ⌝ }
 {
     match first_clash(book, list) {

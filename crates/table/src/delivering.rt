@@ -7,7 +7,7 @@ ghost use lib.ListN.{length};
 ghost use Rattle.std.specs.Results.{Cases};
 ghost use Rattle.rows.specs.Rows.{RowOf, Count};
 ghost use Rattle.table.specs.Cells.{used, laid};
-ghost use Rattle.table.specs.Facts.{AfterDelivery, OnlyIn};
+ghost use Rattle.table.specs.Facts.{AfterDelivery, OnlyIn, UnknownStay};
 ghost use Rattle.table.specs.Refusals.{DeliveryRefused};
 ghost use Rattle.table.specs.Checks.{stays, Enterable};
 ghost use Rattle.table.specs.Calls.{Delivers};
@@ -49,6 +49,7 @@ impl<'a> Table<'a> {
         ensures cells { λ _. ⌜ cells-of (now (self .exit)) ≡ laid (facts-of (now (self .exit))) (cells-of (now (self .entry))) ⌝ }
         ensures refusal { λ r. ⌜ Cases r (λ _. Unit {0}) (λ _. now (self .exit) ≡ now (self .entry)) ⌝ }
         ensures few { λ r. ⌜ Cases r (λ counts. counts .1 ≤ length (now (list .entry)) * most) (λ _. Unit {0}) ⌝ }
+        ensures unknown_stay { λ _. ⌜ UnknownStay (meaning (now (book .entry))) (facts-of (now (self .entry))) (facts-of (now (self .exit))) ⌝ }
         ensures by_worlds { λ r. ⌜ DeliveryByWorlds (meaning (now (book .entry))) (now (list .entry)) (facts-of (now (self .entry))) (facts-of (now (self .exit))) r ⌝ }
         ensures some_world { λ _. ⌜ (SomeWorldHoldsExactly (meaning (now (book .entry))) (facts-of (now (self .entry))) → SomeWorldHoldsExactly (meaning (now (book .entry))) (facts-of (now (self .exit)))) ⌝ }
         ensures named { λ _. ⌜ name (now (self .exit) .cells) ≡ name (now (self .entry) .cells) ⌝ }

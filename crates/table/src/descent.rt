@@ -8,14 +8,14 @@ use book::Book;
 
 // For each fact of the list, how many of its consequences are still to come, and the largest of these.
 #[derive(Drop)]
-pub struct Descent {
+pub(crate) struct Descent {
     left: [usize; 256],
     heads: [u64; 256],
 }
 
 impl Descent {
     // The largest code that follows from one of the list, with the descent at it.
-    pub fn start<B: Book>(book: &B, list: &[u64]) -> (Descent, Option<u64>)
+    pub(crate) fn start<B: Book>(book: &B, list: &[u64]) -> (Descent, Option<u64>)
         requires { ⌜ length (now list) ≤ 256 ⌝ }
         ensures at { λ r. ⌜ DescendsAt (meaning (now (book .entry))) (now (list .entry)) (2 ^ 64) (r .0 .left) (r .0 .heads) ⌝ }
         ensures largest { λ r. ⌜ Largest (FollowsFromOne (meaning (now (book .entry))) (now (list .entry))) (r .1) ⌝ }
@@ -26,7 +26,7 @@ impl Descent {
     }
 
     // The largest code below `code` that follows from one of the list.
-    pub fn advance<B: Book>(&mut self, book: &B, list: &[u64], code: u64) -> Option<u64>
+    pub(crate) fn advance<B: Book>(&mut self, book: &B, list: &[u64], code: u64) -> Option<u64>
         requires short { ⌜ length (now list) ≤ 256 ⌝ }
         requires at { ⌜ DescendsAt (meaning (now book)) (now list) (code + 1) (now self .left) (now self .heads) ⌝ }
         ensures at { λ _. ⌜ DescendsAt (meaning (now (book .entry))) (now (list .entry)) code (now (self .exit) .left) (now (self .exit) .heads) ⌝ }

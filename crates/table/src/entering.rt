@@ -14,7 +14,7 @@ use book::Book;
 use rows::find;
 
 // How many codes follow from one of the list and do not stand in the row.
-pub fn coming<B: Book>(book: &B, list: &[u64], row: &[u64]) -> usize
+pub(crate) fn coming<B: Book>(book: &B, list: &[u64], row: &[u64]) -> usize
     requires short { ⌜ length (now list) ≤ 256 ⌝ }
     requires ascends { ⌜ Ascending (now row) ⌝ }
     ensures { λ r. ⌜ Count (Comes (meaning (now (book .entry))) (now (list .entry)) (now (row .entry))) r ⌝ }
@@ -32,7 +32,7 @@ pub fn coming<B: Book>(book: &B, list: &[u64], row: &[u64]) -> usize
 
 // Enters what follows from one of the list among the first `kept` cells. There are as many cells more as codes come.
 // One pass from the back: each cell moves at most once.
-pub fn enter<B: Book>(book: &B, list: &[u64], cells: &mut [u64], kept: usize)
+pub(crate) fn enter<B: Book>(book: &B, list: &[u64], cells: &mut [u64], kept: usize)
     requires short { ⌜ length (now list) ≤ 256 ⌝ }
     requires within { ⌜ kept ≤ length (now cells) ⌝ }
     requires ascends { ⌜ Ascending (take kept (now cells)) ⌝ }

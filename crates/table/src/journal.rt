@@ -7,6 +7,8 @@ ghost use Rattle.table.specs.Cells.{used, laid};
 ghost use Rattle.table.specs.View.{cells-of, facts-of};
 ghost use Rattle.table.specs.Runs.{Leaves, Replayed};
 use crate::Refusal;
+use crate::RefusalDebug;
+use crate::RefusalPartialEq;
 use crate::Table;
 use book::Book;
 
@@ -21,7 +23,7 @@ pub enum Call<'a> {
 }
 
 // What a call answers.
-#[derive(Clone, Copy)]
+#[derive(Clone, Copy, PartialEq, Eq, Debug)]
 pub enum Answer {
     // To a delivery or a withdrawal: the numbers of facts gone and come, or why the list is refused.
     Changed(Result<(usize, usize), Refusal>),

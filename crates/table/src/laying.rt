@@ -16,7 +16,7 @@ use rows::Test;
 use rows::keep;
 
 // Of the facts in the first `held` cells, those stay that pass the test. Answers how many.
-pub fn retain<T: Test>(test: &T, cells: &mut [u64], held: usize) -> usize
+pub(crate) fn retain<T: Test>(test: &T, cells: &mut [u64], held: usize) -> usize
     requires fits { ⌜ held ≤ used (now cells) ⌝ }
     requires laid { ⌜ now cells ≡ laid (take held (now cells)) (now cells) ⌝ }
     ensures number { λ r. ⌜ r ≡ length (kept-by (T·Test .test (now (test .entry))) (take held (now (cells .entry)))) ⌝ }
@@ -26,7 +26,7 @@ pub fn retain<T: Test>(test: &T, cells: &mut [u64], held: usize) -> usize
 }
 
 // Enters all that follows from one of the list among the facts in the first `kept` cells; `come` codes come.
-pub fn enter_all<B: Book>(book: &B, list: &[u64], cells: &mut [u64], kept: usize, come: usize)
+pub(crate) fn enter_all<B: Book>(book: &B, list: &[u64], cells: &mut [u64], kept: usize, come: usize)
     requires short { ⌜ length (now list) ≤ 256 ⌝ }
     requires fits { ⌜ kept + come ≤ used (now cells) ⌝ }
     requires laid { ⌜ now cells ≡ laid (take kept (now cells)) (now cells) ⌝ }

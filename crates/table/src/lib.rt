@@ -18,6 +18,8 @@ mod refusals;
 mod withdrawing;
 
 pub use journal::Answer;
+pub use journal::AnswerDebug;
+pub use journal::AnswerPartialEq;
 pub use journal::Call;
 pub use journal::replay;
 pub use refusals::Refusal;

@@ -6,7 +6,7 @@ ghost use Prim.Native.Nat.{ℕ};
 ghost use Rattle.std.specs.Results.{Cases};
 ghost use Rattle.rows.specs.Rows.{RowOf, Count};
 ghost use Rattle.table.specs.Cells.{laid};
-ghost use Rattle.table.specs.Facts.{AfterWithdrawal, OnlyIn};
+ghost use Rattle.table.specs.Facts.{AfterWithdrawal, OnlyIn, UnknownStay};
 ghost use Rattle.table.specs.Checks.{untouched};
 ghost use Rattle.table.specs.Calls.{Withdraws};
 ghost use Rattle.table.specs.Worlds.{WithdrawalByWorlds, SomeWorldHoldsExactly};
@@ -46,6 +46,7 @@ impl<'a> Table<'a> {
         ensures facts { λ r. ⌜ Withdraws (meaning (now (book .entry))) (now (list .entry)) (facts-of (now (self .entry))) (facts-of (now (self .exit))) r ⌝ }
         ensures cells { λ _. ⌜ cells-of (now (self .exit)) ≡ laid (facts-of (now (self .exit))) (cells-of (now (self .entry))) ⌝ }
         ensures refusal { λ r. ⌜ Cases r (λ _. Unit {0}) (λ _. now (self .exit) ≡ now (self .entry)) ⌝ }
+        ensures unknown_stay { λ _. ⌜ UnknownStay (meaning (now (book .entry))) (facts-of (now (self .entry))) (facts-of (now (self .exit))) ⌝ }
         ensures by_worlds { λ r. ⌜ WithdrawalByWorlds (meaning (now (book .entry))) (now (list .entry)) (facts-of (now (self .entry))) (facts-of (now (self .exit))) r ⌝ }
         ensures some_world { λ _. ⌜ (SomeWorldHoldsExactly (meaning (now (book .entry))) (facts-of (now (self .entry))) → SomeWorldHoldsExactly (meaning (now (book .entry))) (facts-of (now (self .exit)))) ⌝ }
         ensures named { λ _. ⌜ name (now (self .exit) .cells) ≡ name (now (self .entry) .cells) ⌝ }

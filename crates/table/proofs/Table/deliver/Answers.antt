@@ -9,7 +9,7 @@ use Rattle.table.specs.Calls.{Delivers, DeliveryAccepted}
 use Rattle.table.specs.Cells.{used}
 use Rattle.table.specs.View.{cells-of, facts-of}
 use Rattle.table.proofs.Cells.{laid-itself}
-use Rattle.table.proofs.Deliveries.{come-count}
+use Rattle.table.proofs.Deliveries.{come-count, unknown-stays}
 use Rattle.table.proofs.Few.{comes-few}
 use Rattle.table.proofs.Worlds.{delivery-by-worlds, delivery-keeps-a-world}
 use Rattle.table.proofs.Table.deliver.Needs as need
@@ -29,6 +29,7 @@ returns-in-Break-come g c =
       cells = laid-itself (cells-of t) (t .held) (t .fits) (t .clear);
       refusal = refl;
       few = tt;
+      unknown-stay = λ x unknown h. h;
       by-worlds = delivery-by-worlds m (g .B·Book .most) law size list (facts-of t) (facts-of t) (Err e) refused;
       some-world = λ w. w;
       named = refl;
@@ -58,6 +59,7 @@ returns g c =
       cells = after .cells;
       refusal = tt;
       few = comes-few m (g .B·Book .most) law list (facts-of t) come (can .coming);
+      unknown-stay = unknown-stays m (g .B·Book .most) law list (facts-of t) new (after .facts);
       by-worlds = delivery-by-worlds m (g .B·Book .most) law size list (facts-of t) new (Ok (c .change-gone .result, come)) accepted;
       some-world = delivery-keeps-a-world m (g .B·Book .most) law size list (facts-of t) new (Ok (c .change-gone .result, come)) accepted;
       named = after .named;

@@ -5,6 +5,7 @@ use Rattle.std.proofs.shelf.Results.{err-from-errBy}
 use Rattle.table.specs.Calls.{Withdraws}
 use Rattle.table.specs.View.{cells-of, facts-of}
 use Rattle.table.proofs.Cells.{laid-itself}
+use Rattle.table.proofs.Changes.{unknown-left}
 use Rattle.table.proofs.Worlds.{withdrawal-by-worlds, withdrawal-keeps-a-world}
 use Rattle.table.proofs.Table.withdraw.Needs as need
 
@@ -21,6 +22,7 @@ returns-in-Break-check-list g c =
       facts = refused;
       cells = laid-itself (cells-of t) (t .held) (t .fits) (t .clear);
       refusal = refl;
+      unknown-stay = λ x unknown h. h;
       by-worlds = withdrawal-by-worlds m (g .B·Book .most) law list (facts-of t) (facts-of t) (Err e) refused;
       some-world = λ w. w;
       named = refl;
@@ -39,6 +41,7 @@ returns g c =
       facts = accepted;
       cells = after .cells;
       refusal = tt;
+      unknown-stay = unknown-left m (g .B·Book .most) law list (facts-of t) new (after .facts);
       by-worlds = withdrawal-by-worlds m (g .B·Book .most) law list (facts-of t) new (Ok (c .release-gone .result, 0)) accepted;
       some-world = withdrawal-keeps-a-world m (g .B·Book .most) law list (facts-of t) new (Ok (c .release-gone .result, 0)) accepted;
       named = after .named;

@@ -1,0 +1,39 @@
+// The lines that are printed of a table.
+ghost use mathlib.Core.Path.{_≡_};
+ghost use Rattle.std.specs.Of.String.{string-bytes};
+ghost use Rattle.std.specs.Vec.{made};
+ghost use Rattle.table.specs.View.{facts-of};
+ghost use Rattle.console.specs.Lines.{changed-text, listing-text};
+use std::alloc::AllocError;
+use std::alloc::Global;
+use std::fmt;
+use table::Refusal;
+use table::RefusalDisplay;
+use table::Table;
+
+// What a delivery or a withdrawal answered.
+pub fn changed_line(
+    heap: Global,
+    answer: Result<(usize, usize), Refusal>,
+) -> Result<String, AllocError>
+    ensures { λ r. ⌜ made r (λ s. string-bytes s ≡ changed-text answer) ⌝ }
+{
+    match answer {
+        Ok((gone, come)) => format!(heap, "ok {gone} {come}"),
+        Err(refusal) => format!(heap, "{refusal}"),
+    }
+}
+
+// The facts held, each on a line in ascending order of codes, and how many are held.
+pub fn held_lines(heap: Global, table: &Table<'_>) -> Result<String, fmt::Error>
+    ensures { λ r. ⌜ made r (λ s. string-bytes s ≡ listing-text (facts-of (now (table .entry)))) ⌝ }
+{
+    let mut out = String::new(heap);
+    let mut k = 0;
+    while let Some(code) = table.nth_held(k) {
+        writeln!(out, "{code}")?;
+        k += 1;
+    }
+    write!(out, "end {k}")?;
+    Ok(out)
+}
