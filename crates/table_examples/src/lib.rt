@@ -1,0 +1,3 @@
+// Examples of tables with their sums done by hand.
+#[cfg(test)]
+mod tables;
