@@ -10,7 +10,7 @@ use Rattle.std.specs.Orderings.{Decides}
 use Rattle.std.specs.declared.option.Option.{Option}
 use Rattle.std.specs.declared.option.Option.the-variants.{Some, None}
 use Rattle.std.specs.shelf.Lists.{Has}
-use Rattle.book.specs.Meaning.{Meaning, Follows, FollowsFromOne, AllKnown, NothingClashes}
+use Rattle.book.specs.Meaning.{Meaning, Follows, FollowsFromOne, AllKnown, NothingClashes, HoldsAll}
 
 -- the place of the first code that the book does not know; none where it knows them all
 abbrev pub FirstUnknown : Meaning → List ℕ → Option ℕ → Type 0
@@ -48,7 +48,7 @@ ConsequencesDoNotClash m l = (a b : ℕ) → FollowsFromOne m l a → FollowsFro
 
 -- no world holds every fact of the list
 abbrev pub NoWorldHoldsAll : Meaning → List ℕ → Type 0
-NoWorldHoldsAll m l = (w : m .World) → ((c : ℕ) → Has l c → m .Holds w c) → ⊥
+NoWorldHoldsAll m l = (w : m .World) → HoldsAll m w l → ⊥
 
 -- two facts of the list, or one taken twice, clash
 abbrev pub SomeClash : Meaning → List ℕ → Type 0

@@ -37,6 +37,10 @@ AllKnown m l = (c : ℕ) → Has l c → m .known c ≡ true
 abbrev pub NothingClashes : Meaning → List ℕ → Type 0
 NothingClashes m l = (a b : ℕ) → Has l a → Has l b → m .clash a b ≡ false
 
+-- the world holds each fact of the list
+abbrev pub HoldsAll : (m : Meaning) → m .World → List ℕ → Type 0
+HoldsAll m w l = (c : ℕ) → Has l c → m .Holds w c
+
 -- every world that holds the first fact holds the second
 abbrev pub HoldsWherever : Meaning → ℕ → ℕ → Type 0
 HoldsWherever m a c = (w : m .World) → m .Holds w a → m .Holds w c

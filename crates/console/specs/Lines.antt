@@ -5,11 +5,14 @@ use Prim.Native.Nat.{ℕ}
 use lib.Chars.{codes}
 use lib.ListN.{length}
 use Rattle.std.specs.Written.{decimal}
+use Rattle.std.specs.declared.option.Option.the-variants.{Some, None}
 use Rattle.std.specs.declared.result.Result.{Result}
 use Rattle.std.specs.declared.result.Result.the-variants.{Ok, Err}
 use Rattle.place_book.specs.Printed.{refusal-text}
 use Rattle.place_book.specs.declared.refusals.Refusal.{Refusal}
 use Rattle.table.specs.Printed as printed
+use Rattle.table.specs.declared.journal.Answer as journal
+use Rattle.table.specs.declared.journal.Answer.the-variants.{Changed, Number, Held, Fact}
 use Rattle.table.specs.declared.refusals.Refusal as table
 
 -- the number of a new place, as `place 1`, or the refusal
@@ -35,3 +38,12 @@ clash-text a b false = decimal a ++ (codes " and " ++ (decimal b ++ codes " do n
 abbrev pub changed-text : Result (ℕ × ℕ) table.Refusal → List ℕ
 changed-text (Ok counts) = codes "ok " ++ (decimal (counts .0) ++ (codes " " ++ decimal (counts .1)))
 changed-text (Err e) = printed.refusal-text e
+
+-- what a call of a journal answers; to a question a number, `yes` or `no`, and a code or `none`
+abbrev pub answer-text : journal.Answer → List ℕ
+answer-text (Changed r) = changed-text r
+answer-text (Number n) = decimal n
+answer-text (Held true) = codes "yes"
+answer-text (Held false) = codes "no"
+answer-text (Fact (Some c)) = decimal c
+answer-text (Fact None) = codes "none"

@@ -6,15 +6,15 @@ ghost use Rattle.console.specs.Lines.{added-text, listing-text, clash-text};
 
 mod tables;
 
-pub use tables::changed_line;
-pub use tables::held_lines;
-
 use book::Book;
 use place_book::Refusal;
 use place_book::RefusalDisplay;
 use std::alloc::AllocError;
 use std::alloc::Global;
 use std::fmt;
+pub use tables::answer_line;
+pub use tables::changed_line;
+pub use tables::held_lines;
 
 // What a draft answered to a new place: its number, or the refusal.
 pub fn added_line(heap: Global, answer: Result<usize, Refusal>) -> Result<String, AllocError>

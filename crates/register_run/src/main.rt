@@ -1,5 +1,6 @@
 // One task on a plant, from its draft to a table of where things are.
 use console::added_line;
+use console::answer_line;
 use console::changed_line;
 use console::clash_line;
 use console::following_lines;
@@ -8,7 +9,8 @@ use place_book::Draft;
 use place_book::PlaceBook;
 use place_book::PlaceRules;
 use std::error::AnyError;
-use table::Table;
+use table::Call;
+use table::replay;
 
 // Places 1 under 0, 2 and 3 under 1, and 4 under 0.
 fn draft_plant(rt: &LibcRuntime) -> Result<PlaceBook, AnyError> {
@@ -31,17 +33,28 @@ fn ask_book(rt: &LibcRuntime, book: &PlaceBook) -> Result<(), AnyError> {
     Ok(())
 }
 
-// Thing 9 is moved from place 2 to 3 and to 4, is said to be in two places, and leaves place 4.
+// A journal with a delivery for each of the facts.
+fn deliveries<'a>(facts: &'a [u64; 3]) -> [Call<'a>; 3] {
+    [
+        Call::Deliver(&facts[0..1]),
+        Call::Deliver(&facts[1..2]),
+        Call::Deliver(&facts[2..3]),
+    ]
+}
+
+// Thing 9 is moved from place 2 to 3 and to 4. Then it is said to be in two places, and leaves place 4.
 fn keep_table(rt: &LibcRuntime, book: &PlaceBook) -> Result<(), AnyError> {
     let heap = rt.alloc();
     let nine_in_2 = book.fact(9, 2).ok_or("no place 2")?;
     let nine_in_3 = book.fact(9, 3).ok_or("no place 3")?;
     let nine_in_4 = book.fact(9, 4).ok_or("no place 4")?;
+    let moves = [nine_in_2, nine_in_3, nine_in_4];
     let mut cells = [0; 16];
-    let mut table = Table::over(&mut cells);
-    rt.println(changed_line(heap, table.deliver(book, &[nine_in_2]))?)?;
-    rt.println(changed_line(heap, table.deliver(book, &[nine_in_3]))?)?;
-    rt.println(changed_line(heap, table.deliver(book, &[nine_in_4]))?)?;
+    let mut answers = [None; 3];
+    let mut table = replay(book, &mut cells, &deliveries(&moves), &mut answers);
+    for answer in answers {
+        rt.println(answer_line(heap, answer.ok_or("a call without an answer")?)?)?;
+    }
     rt.println(held_lines(heap, &table)?)?;
     rt.println(changed_line(heap, table.deliver(book, &[nine_in_2, nine_in_4]))?)?;
     rt.println(changed_line(heap, table.deliver(book, &[]))?)?;

@@ -1,3 +1,4 @@
 pub mod Tests
 pub mod Members
 pub mod Ascents
+pub mod Properties

@@ -2,14 +2,17 @@
 ghost use mathlib.Core.Path.{_≡_};
 ghost use mathlib.Core.Bool.{Bool};
 ghost use mathlib.Core.List.{_++_};
-ghost use Prim.Native.Nat.{ℕ, _-_, _≤_};
-ghost use lib.ListN.{length, replicate, take};
+ghost use Prim.Native.Nat.{ℕ, _-_, _≤_, _<_};
+ghost use lib.ListN.{length, getD, replicate, take};
+ghost use Rattle.std.specs.Results.{Cases};
 ghost use Rattle.std.specs.shelf.Lists.{kept-by};
 ghost use Rattle.rows.specs.Rows.{Ascending, Placed};
 
-// The place of `c` in a row that ascends, or the place where it belongs.
+// The place of `c` in a row that ascends, or the place where it belongs. In a list that does not ascend `c` may be
+// missed; where a place is answered, `c` stands there.
 pub fn find(row: &[u64], c: u64) -> Result<usize, usize>
-    ensures { λ r. ⌜ (Ascending (now (row .entry)) → Placed (now (row .entry)) c r) ⌝ }
+    ensures placed { λ r. ⌜ (Ascending (now (row .entry)) → Placed (now (row .entry)) c r) ⌝ }
+    ensures within { λ r. ⌜ Cases r (λ i. (i < length (now (row .entry))) × (getD (now (row .entry)) i 0 ≡ c)) (λ i. i ≤ length (now (row .entry))) ⌝ }
 {
     row.binary_search(&c)
 }

@@ -1,16 +1,16 @@
 -- Cells in which a table's facts are laid out.
 use mathlib.Core.Path.{_≡_, refl, sym, ap, subst, _∙_}
-use mathlib.Core.List.{List, [], _∷_, _++_}
-use Prim.Native.Nat.{ℕ, _+_, _-_, _≤_, _<_, min}
+use mathlib.Core.List.{List, _++_}
+use Prim.Native.Nat.{ℕ, _+_, _-_, _≤_, min}
 use native.Mathlib.Omega.{arith}
 use lib.ListN.{length, take, drop, replicate}
-use Rattle.std.proofs.shelf.Lists.{append-assoc, length-append, length-drop, length-replicate, length-take-le, replicate-append-replicate, take-append-drop, take-at, drop-at, drop-drop, drop-append-le, drop-replicate}
+use Rattle.std.proofs.shelf.Lists.{append-assoc, length-append, length-drop, length-replicate, length-take-le, replicate-append-replicate, take-at, drop-at, drop-drop, drop-append-le, drop-replicate}
 use Rattle.rows.specs.Rows.{Ascending}
 use Rattle.table.specs.Cells.{used, laid}
 
 -- what a table keeps of its cells: its ghost fields
 abbrev pub Kept : List ℕ → ℕ → Type 0
-Kept cells held = (held ≤ used cells) × (Ascending (take held cells) × ((drop held (take (used cells) cells) ≡ replicate (used cells - held) 0) × Unit {0}))
+Kept cells held = (held ≤ used cells) × (Ascending (take held cells) × ((cells ≡ laid (take held cells) cells) × Unit {0}))
 
 module _ (facts cells : List ℕ) (fits : length facts ≤ used cells) where
   abbrev zeros : List ℕ
@@ -41,23 +41,7 @@ module _ (facts cells : List ℕ) (fits : length facts ≤ used cells) where
       ap (λ n. others ++ (replicate (n - length others) 0 ++ drop n (laid facts cells))) used-laid ∙ ap (λ l. others ++ (replicate (used cells - length others) 0 ++ l)) rest
 
   pub kept-laid : Ascending facts → Kept (laid facts cells) (length facts)
-  kept-laid up =
-      let part : take (used cells) (laid facts cells) ≡ facts ++ zeros = ap (take (used cells)) laid-parts ∙ take-at (facts ++ zeros) (drop (used cells) cells) (used cells) used-part in (
-        omega (arith, used-laid),
-        (
-          subst Ascending (sym take-laid) up,
-          (ap (λ n. drop (length facts) (take n (laid facts cells))) used-laid ∙ ap (drop (length facts)) part ∙ drop-at facts zeros (length facts) refl ∙ ap (λ n. replicate (n - length facts) 0) (sym used-laid), tt),
-        ),
-      )
-
--- a table's own facts are laid out in its cells
-pub laid-itself : (cells : List ℕ) (held : ℕ) → held ≤ used cells → drop held (take (used cells) cells) ≡ replicate (used cells - held) 0 → cells ≡ laid (take held cells) cells
-laid-itself cells held fits clear =
-    let n : length (take held cells) ≡ held = length-take-le held cells (omega arith) in
-    let u : length (take (used cells) cells) ≡ used cells = length-take-le (used cells) cells (omega arith) in
-    let rest : drop held cells ≡ replicate (used cells - held) 0 ++ drop (used cells) cells
-    = ap (drop held) (sym (take-append-drop (used cells) cells)) ∙ drop-append-le held (take (used cells) cells) (drop (used cells) cells) (omega arith) ∙ ap (λ l. l ++ drop (used cells) cells) clear in
-    sym (take-append-drop held cells) ∙ ap (λ l. take held cells ++ l) rest ∙ ap (λ k. take held cells ++ (replicate (used cells - k) 0 ++ drop (used cells) cells)) (sym n)
+  kept-laid up = (omega (arith, used-laid), (subst Ascending (sym take-laid) up, (sym (laid-laid facts) ∙ ap (λ l. laid l (laid facts cells)) (sym take-laid), tt)))
 
 -- with other names for the cells and their number
 pub kept-at : (facts cells cells′ : List ℕ) (n : ℕ) → cells′ ≡ laid facts cells → n ≡ length facts → length facts ≤ used cells → Ascending facts → Kept cells′ n

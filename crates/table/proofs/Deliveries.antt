@@ -1,97 +1,27 @@
 -- The facts that a delivery leaves: those of the earlier row that stay, and those that come.
-use mathlib.Core.Path.{_≡_, refl, sym, ap, subst, _∙_}
-use mathlib.Core.List.{List, [], _∷_, _++_}
-use mathlib.Core.Bool.{Bool, true, false, not}
+use mathlib.Core.Path.{_≡_, refl, ap}
+use mathlib.Core.List.{List, [], _∷_}
+use mathlib.Core.Bool.{Bool, not}
 use mathlib.Core.Logic.{_⊎_, inl, inr, _↔_}
-use Prim.Native.Nat.{ℕ, _+_, _-_, _≤_, _<_}
+use Prim.Native.Nat.{ℕ, _+_, _-_, _<_}
 use native.Mathlib.Omega.{arith}
-use lib.Dec.{ltb}
 use lib.ListN.{length}
 use Rattle.std.specs.shelf.Lists.{Has, kept-by}
-use Rattle.std.proofs.shelf.Elements.{has-append-left, has-append-right}
 use Rattle.std.proofs.shelf.Filters.{length-kept-by-both}
-use Rattle.std.proofs.shelf.Lists.{length-append}
-use Rattle.std.proofs.shelf.Tests.{both-ways, cases-bool, cases-lt, ltb-true, lt-ltb, not-true, not-false, not-from-true, not-from-false}
+use Rattle.std.proofs.shelf.Tests.{both-ways, not-true, not-from-false}
 use Rattle.rows.specs.Rows.{Ascending, RowOf, Count}
-use Rattle.rows.proofs.Ascents.{ascending-cons, ascending-append, ascending-kept, ascending-tail, ascending-head}
-use Rattle.rows.proofs.Members.{has-none, has-head, has-tail, has-cases, has-append-cases, kept-has, has-kept}
+use Rattle.rows.proofs.Ascents.{ascending-kept}
+use Rattle.rows.proofs.Properties.{row-of-both}
+use Rattle.rows.proofs.Members.{kept-has, has-kept}
 use Rattle.rows.proofs.Tests.{false-from-not-true}
 use Rattle.book.specs.Meaning.{Meaning, Lawful, FollowsFromOne, NothingClashes}
 use Rattle.book.proofs.Peace.{causes-clash}
-use Rattle.table.specs.Facts.{ClashesWithNone, AfterDelivery, OnlyIn, UnknownStay, Readable}
+use Rattle.table.specs.Facts.{ClashesWithNone, AfterDelivery, OnlyIn, UnknownStay, ShortAndKnown}
 use Rattle.table.specs.Refusals.{DeliveryRefused}
 use Rattle.table.specs.declared.refusals.Refusal.the-variants.{Full}
 use Rattle.table.specs.Checks.{stays}
 use Rattle.table.specs.Descent.{Comes}
 use Rattle.table.proofs.Tests.{stays-tells, cases-has}
-
--- a row with one number more
-row-with : (xs : List ℕ) (y : ℕ) → Ascending xs → (Has xs y → ⊥) → (zs : List ℕ) × RowOf (λ c. Has xs c ⊎ (y ≡ c)) zs × (length zs ≡ length xs + 1)
-row-with xs y up new =
-    let p : ℕ → Bool = λ x. ltb x y in
-    let q : ℕ → Bool = λ x. not (p x) in
-    let low = kept-by p xs in
-    let high = kept-by q xs in
-    let below : (x : ℕ) → Has low x → x < y = λ x h. ltb-true x y (kept-has p xs x h .1) in
-    let above : (x : ℕ) → Has high x → y < x = λ x h.
-    let k = kept-has q xs x h in
-    elim (cases-lt y x) [
-      | inl l ↦ l
-      | inr l ↦ elim (cases-lt x y) [
-        | inl n ↦ absurd (both-ways (p x) (not-true (p x) (k .1)) (lt-ltb x y n))
-        | inr n ↦ let e : x ≡ y = omega arith in absurd (new (subst (Has xs) e (k .0)))
-      ]
-    ] in (
-      low ++ (y ∷ high),
-      record {
-        ascends = ascending-append low (y ∷ high) (ascending-kept p xs up) (ascending-cons y high (ascending-kept q xs up) above) (λ a b h k. elim (has-cases y high k) [
-          | inl e ↦ omega (arith, below a h)
-          | inr r ↦ omega (arith, below a h, above b r)
-        ]);
-        members = λ c. (
-          (λ h. elim (has-append-cases low (y ∷ high) h) [
-            | inl l ↦ inl (kept-has p xs c l .0)
-            | inr r ↦ elim (has-cases y high r) [ inl e ↦ inr e | inr k ↦ inl (kept-has q xs c k .0) ]
-          ]),
-          λ h. elim h [
-            | inl k ↦ elim (cases-bool (p c)) [
-              | inl t ↦ has-append-left low (y ∷ high) c (has-kept p xs c k t)
-              | inr f ↦ has-append-right low (y ∷ high) c (has-tail y high (has-kept q xs c k (not-from-false (p c) f)))
-            ]
-            | inr e ↦ has-append-right low (y ∷ high) c (subst (Has (y ∷ high)) e (has-head y high))
-          ],
-        );
-      },
-      length-append low (y ∷ high) ∙ omega (arith, length-kept-by-both p q (λ _. refl) xs),
-    )
-
--- two rows that share no number, as one
-pub row-of-both : (xs ys : List ℕ) → Ascending xs → Ascending ys → ((c : ℕ) → Has xs c → Has ys c → ⊥) → (zs : List ℕ) × RowOf (λ c. Has xs c ⊎ Has ys c) zs × (length zs ≡ length xs + length ys)
-row-of-both xs [] up vp apart = (xs, record { ascends = up; members = λ c. ((λ h. inl h), λ h. elim h [ inl k ↦ k | inr k ↦ absurd (has-none k) ]) }, omega arith)
-row-of-both xs (y ∷ ys) up vp apart =
-    let r = row-of-both xs ys up (ascending-tail y ys vp) (λ c h k. apart c h (has-tail y ys k)) in
-    let rest = r .0 in
-    let new : Has rest y → ⊥ = λ h. elim (r .1 .members y .0 h) [
-      | inl k ↦ apart y k (has-head y ys)
-      | inr k ↦ omega (arith, ascending-head y ys vp y k)
-    ] in
-    let s = row-with rest y (r .1 .ascends) new in (
-      s .0,
-      record {
-        ascends = s .1 .ascends;
-        members = λ c. (
-          (λ h. elim (s .1 .members c .0 h) [
-            | inl k ↦ elim (r .1 .members c .0 k) [ inl a ↦ inl a | inr b ↦ inr (has-tail y ys b) ]
-            | inr e ↦ inr (subst (Has (y ∷ ys)) e (has-head y ys))
-          ]),
-          λ h. s .1 .members c .1 (elim h [
-            | inl a ↦ inl (r .1 .members c .1 (inl a))
-            | inr b ↦ elim (has-cases y ys b) [ inl e ↦ inr e | inr k ↦ inl (r .1 .members c .1 (inr k)) ]
-          ]),
-        );
-      },
-      omega (arith, s .2, r .2),
-    )
 
 -- a code that the book does not know clashes with nothing
 pub unknown-stays : (m : Meaning) (most : ℕ) (law : Lawful m most) (list old new : List ℕ) → RowOf (AfterDelivery m list old) new → UnknownStay m old new
@@ -160,11 +90,11 @@ module _ (m : Meaning) (most : ℕ) (law : Lawful m most) (list old : List ℕ) 
       )
 
   -- more facts than cells
-  pub refused-full : (size kept come : ℕ) → Readable m list → Count (Comes m list old) come → kept ≡ length staying → size < kept + come → DeliveryRefused m size list old (Full (kept + come))
-  refused-full size kept come readable count is more =
+  pub refused-full : (size kept come : ℕ) → ShortAndKnown m list → Count (Comes m list old) come → kept ≡ length staying → size < kept + come → DeliveryRefused m size list old (Full (kept + come))
+  refused-full size kept come short-and-known count is more =
       let new = leaves-some come count in
       let long : kept + come ≡ length (new .0) = omega (arith, new .2) in
-      inr (inr (readable, peace, (new .0, new .1, omega arith, (refl, ap (λ n. n ∷ []) long))))
+      inr (inr (short-and-known, peace, (new .0, new .1, omega arith, (refl, ap (λ n. n ∷ []) long))))
 
   -- the counts of an accepted delivery
   module _ (new : List ℕ) (leaves : RowOf (AfterDelivery m list old) new) where

@@ -18,27 +18,19 @@ use Rattle.std.proofs.shelf.Lists.{same-lists}
 use Rattle.std.proofs.shelf.Maps.{nth-getD}
 use Rattle.std.proofs.shelf.Tests.{both-ways, cases-order}
 use Rattle.std.proofs.shelf.Ways.{same-from-decides}
-use Rattle.rows.specs.Rows.{RowOf, Count}
-use Rattle.rows.proofs.Ascents.{same-rows}
+use Rattle.rows.proofs.Properties.{one-row, one-count}
 use Rattle.book.specs.Meaning.{Meaning, NothingClashes}
 use Rattle.book.specs.Lists.{FirstUnknown, FirstClash}
 use Rattle.table.specs.Refusals.{number-of, returned-by, Says, ListRefused, DeliveryRefused}
 use Rattle.table.specs.Calls.{DeliveryAccepted, Delivers, Withdraws}
-use Rattle.table.specs.Runs.{Leaves, Run}
+use Rattle.table.specs.Runs.{CarriedOut, Run}
 use Rattle.table.specs.declared.refusals.Refusal.{Refusal}
 use Rattle.table.specs.declared.refusals.Refusal.the-variants.{TooLong, Unknown, Clash, Full}
 use Rattle.table.specs.declared.journal.Call.{Call}
 use Rattle.table.specs.declared.journal.Call.the-variants.{Deliver, Withdraw, CountHeld, IsHeld, NthHeld}
 use Rattle.table.specs.declared.journal.Answer.{Answer}
-use Rattle.table.proofs.Worlds.{refused-is-not-readable}
+use Rattle.table.proofs.Worlds.{refused-is-not-short-and-known}
 use Rattle.table.proofs.Runs.{nth-within}
-
--- a property has one row, and one number of those that have it
-pub one-row : {P : ℕ → Type 0} {xs ys : List ℕ} → RowOf P xs → RowOf P ys → xs ≡ ys
-one-row {P} {xs} {ys} r s = same-rows xs ys (r .ascends) (s .ascends) (λ c h. s .members c .1 (r .members c .0 h)) (λ c h. r .members c .1 (s .members c .0 h))
-
-pub one-count : (P : ℕ → Type 0) (n k : ℕ) → Count P n → Count P k → n ≡ k
-one-count P n k a b = let e = one-row (a .1) (b .1) in cc
 
 -- the refusal with this number that returns this
 abbrev spoken : ℕ → List ℕ → Refusal
@@ -104,10 +96,10 @@ module _ (m : Meaning) (list : List ℕ) where
   one-withdrawal : (old new new′ : List ℕ) (r s : Result (ℕ × ℕ) Refusal) → Withdraws m list old new r → Withdraws m list old new′ s → (s ≡ r) × (new′ ≡ new)
   one-withdrawal old new new′ (Ok a) (Ok b) d d′ =
       let same = one-row (d′ .0 .leaves) (d .0 .leaves) in
-      let gone = one-count _ _ _ (rw same at (d′ .0 .gone-are)) (d .0 .gone-are) in
+      let gone = one-count _ _ _ (rw same at (d′ .0 .number-gone)) (d .0 .number-gone) in
       (ap Ok (same-pair b a gone (d′ .1 ∙ sym (d .1))), same)
-  one-withdrawal old new new′ (Ok a) (Err f) d d′ = absurd (refused-is-not-readable m list f (d′ .0) (d .0 .readable))
-  one-withdrawal old new new′ (Err e) (Ok b) d d′ = absurd (refused-is-not-readable m list e (d .0) (d′ .0 .readable))
+  one-withdrawal old new new′ (Ok a) (Err f) d d′ = absurd (refused-is-not-short-and-known m list f (d′ .0) (d .0 .short-and-known))
+  one-withdrawal old new new′ (Err e) (Ok b) d d′ = absurd (refused-is-not-short-and-known m list e (d .0) (d′ .0 .short-and-known))
   one-withdrawal old new new′ (Err e) (Err f) d d′ = (ap Err (one-list-refusal e f (d .0) (d′ .0)), d′ .1 ∙ sym (d .1))
 
   module _ (size : ℕ) (old : List ℕ) where
@@ -115,18 +107,18 @@ module _ (m : Meaning) (list : List ℕ) where
     one-delivery-refusal e f r s = elim r [
       | inl a ↦ elim s [
         | inl b ↦ one-list-refusal e f a b
-        | inr t ↦ elim t [ inl b ↦ absurd (refused-is-not-readable m list e a (b .0)) | inr b ↦ absurd (refused-is-not-readable m list e a (b .0)) ]
+        | inr t ↦ elim t [ inl b ↦ absurd (refused-is-not-short-and-known m list e a (b .0)) | inr b ↦ absurd (refused-is-not-short-and-known m list e a (b .0)) ]
       ]
       | inr v ↦ elim v [
         | inl a ↦ elim s [
-          | inl b ↦ absurd (refused-is-not-readable m list f b (a .0))
+          | inl b ↦ absurd (refused-is-not-short-and-known m list f b (a .0))
           | inr t ↦ elim t [
             | inl b ↦ says-the-same e f _ _ _ (a .1 .2) (b .1 .2) (ap (λ (p : ℕ × ℕ). p .0 ∷ (p .1 ∷ [])) (one-first-clash _ _ (a .1 .1) (b .1 .1)))
             | inr b ↦ absurd (first-clash-is-a-clash _ (a .1 .1) (b .1))
           ]
         ]
         | inr a ↦ elim s [
-          | inl b ↦ absurd (refused-is-not-readable m list f b (a .0))
+          | inl b ↦ absurd (refused-is-not-short-and-known m list f b (a .0))
           | inr t ↦ elim t [
             | inl b ↦ absurd (first-clash-is-a-clash _ (b .1 .1) (a .1))
             | inr b ↦ says-the-same e f _ _ _ (a .2 .3) (b .2 .3) (ap (λ (xs : List ℕ). length xs ∷ []) (one-row (a .2 .1) (b .2 .1)))
@@ -138,7 +130,7 @@ module _ (m : Meaning) (list : List ℕ) where
     -- a delivery that is accepted is not refused
     accepted-or-refused : (new : List ℕ) (gone come : ℕ) (e : Refusal) → DeliveryAccepted m size list old new gone come → DeliveryRefused m size list old e → ⊥
     accepted-or-refused new gone come e d r = elim r [
-      | inl a ↦ refused-is-not-readable m list e a (d .readable)
+      | inl a ↦ refused-is-not-short-and-known m list e a (d .short-and-known)
       | inr v ↦ elim v [
         | inl a ↦ first-clash-is-a-clash _ (a .1 .1) (d .nothing-clashes)
         | inr a ↦ omega (arith, d .fits, a .2 .2, ap length (one-row (d .leaves) (a .2 .1)))
@@ -148,15 +140,15 @@ module _ (m : Meaning) (list : List ℕ) where
     one-delivery : (new new′ : List ℕ) (r s : Result (ℕ × ℕ) Refusal) → Delivers m size list old new r → Delivers m size list old new′ s → (s ≡ r) × (new′ ≡ new)
     one-delivery new new′ (Ok a) (Ok b) d d′ =
         let same = one-row (d′ .leaves) (d .leaves) in
-        let gone = one-count _ _ _ (rw same at (d′ .gone-are)) (d .gone-are) in
-        let come = one-count _ _ _ (rw same at (d′ .come-are)) (d .come-are) in
+        let gone = one-count _ _ _ (rw same at (d′ .number-gone)) (d .number-gone) in
+        let come = one-count _ _ _ (rw same at (d′ .number-come)) (d .number-come) in
         (ap Ok (same-pair b a gone come), same)
     one-delivery new new′ (Ok a) (Err f) d d′ = absurd (accepted-or-refused new _ _ f d (d′ .0))
     one-delivery new new′ (Err e) (Ok b) d d′ = absurd (accepted-or-refused new′ _ _ e d′ (d .0))
     one-delivery new new′ (Err e) (Err f) d d′ = (ap Err (one-delivery-refusal e f (d .0) (d′ .0)), d′ .1 ∙ sym (d .1))
 
 -- a call leaves and answers one thing
-one-answer : (m : Meaning) (size : ℕ) (old : List ℕ) (call : Call) (new new′ : List ℕ) (answer answer′ : Answer) → Leaves m size old call new answer → Leaves m size old call new′ answer′ → (answer′ ≡ answer) × (new′ ≡ new)
+one-answer : (m : Meaning) (size : ℕ) (old : List ℕ) (call : Call) (new new′ : List ℕ) (answer answer′ : Answer) → CarriedOut m size old call new answer → CarriedOut m size old call new′ answer′ → (answer′ ≡ answer) × (new′ ≡ new)
 one-answer m size old (Deliver list) new new′ answer answer′ l k =
     let one = one-delivery m (now list) size old new new′ (l .0) (k .0) (l .2) (k .2) in
     (cc, one .1)
@@ -175,8 +167,8 @@ module _ (m : Meaning) (size : ℕ) (calls : List Call) (answers answers′ : Li
       let call = nth-within calls i h in
       let a = nth-within answers i (omega (arith, run .all-answered)) in
       let b = nth-within answers′ i (omega (arith, run′ .all-answered)) in
-      let left′ : Leaves m size (facts i) (call .0) (facts′ (i + 1)) (b .0) = subst (λ (old : List ℕ). Leaves m size old (call .0) (facts′ (i + 1)) (b .0)) same (run′ .each-leaves i (call .0) (b .0) (call .1) (b .1)) in
-      let one = one-answer m size (facts i) (call .0) (facts (i + 1)) (facts′ (i + 1)) (a .0) (b .0) (run .each-leaves i (call .0) (a .0) (call .1) (a .1)) left′ in
+      let left′ : CarriedOut m size (facts i) (call .0) (facts′ (i + 1)) (b .0) = subst (λ (old : List ℕ). CarriedOut m size old (call .0) (facts′ (i + 1)) (b .0)) same (run′ .each-carried-out i (call .0) (b .0) (call .1) (b .1)) in
+      let one = one-answer m size (facts i) (call .0) (facts (i + 1)) (facts′ (i + 1)) (a .0) (b .0) (run .each-carried-out i (call .0) (a .0) (call .1) (a .1)) left′ in
       (cc, one .1)
 
   same-facts : (i : ℕ) → i ≤ length calls → facts′ i ≡ facts i

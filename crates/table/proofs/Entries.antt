@@ -1,17 +1,15 @@
 -- What a descent through the consequences of a list has done so far: counted those that come, and entered them.
-use mathlib.Core.Path.{_≡_, refl, sym, ap, subst, _∙_}
-use mathlib.Core.List.{List, [], _∷_, _++_}
-use mathlib.Core.Bool.{Bool}
-use mathlib.Core.Logic.{_⊎_, inl, inr, _↔_}
+use mathlib.Core.Path.{_≡_, refl, sym, subst}
+use mathlib.Core.List.{List, [], _∷_}
+use mathlib.Core.Logic.{_⊎_, inl, inr}
 use Prim.Native.Nat.{ℕ, suc, _+_, _-_, _≤_, _<_, _^_}
 use native.Mathlib.Omega.{arith}
-use lib.Dec.{ltb}
-use lib.ListN.{length, getD, take, drop}
+use lib.ListN.{length}
 use Rattle.std.specs.declared.option.Option.{Option}
 use Rattle.std.specs.declared.option.Option.the-variants.{Some, None}
-use Rattle.std.specs.shelf.Lists.{Has, kept-by}
+use Rattle.std.specs.shelf.Lists.{Has}
 use Rattle.std.proofs.shelf.Tests.{cases-lt}
-use Rattle.rows.specs.Rows.{Ascending, RowOf, Count}
+use Rattle.rows.specs.Rows.{RowOf, Count}
 use Rattle.rows.proofs.Ascents.{ascending-cons, ascending-none}
 use Rattle.rows.proofs.Members.{has-none, has-head, has-tail, has-cases}
 use Rattle.book.specs.Meaning.{Meaning, Lawful, FollowsFromOne}

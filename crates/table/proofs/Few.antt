@@ -1,32 +1,18 @@
--- How many numbers a row has at most, and how many facts come at most.
-use mathlib.Core.Path.{refl}
+-- How many facts follow from a list and come at most.
 use mathlib.Core.List.{List, [], _∷_}
-use mathlib.Core.Bool.{not}
 use mathlib.Core.Logic.{inl, inr}
 use Prim.Native.Nat.{ℕ, _*_, _≤_}
 use native.Mathlib.Nat.{suc-mul, mul-le-mul-right}
 use native.Mathlib.Omega.{arith}
-use lib.Dec.{eqb}
 use lib.ListN.{length}
 use Rattle.std.specs.shelf.Lists.{Has, joined}
 use Rattle.std.proofs.shelf.Elements.{has-append-left, has-append-right}
-use Rattle.std.proofs.shelf.Filters.{length-kept-by-both}
 use Rattle.std.proofs.shelf.Lists.{length-append}
-use Rattle.std.proofs.shelf.Tests.{eq-eqb, ne-eqb, not-from-false}
 use Rattle.rows.specs.Rows.{Ascending, Count}
-use Rattle.rows.proofs.Members.{has-none, has-head, has-tail, has-cases, has-kept}
-use Rattle.rows.proofs.Ascents.{ascending-tail, ascending-head}
+use Rattle.rows.proofs.Members.{has-none, has-cases}
+use Rattle.rows.proofs.Properties.{row-within}
 use Rattle.book.specs.Meaning.{Meaning, Lawful, FollowsFromOne}
 use Rattle.table.specs.Descent.{Comes}
-
--- a row has no more numbers than a list that has them all
-pub row-within : (xs ys : List ℕ) → Ascending xs → ((c : ℕ) → Has xs c → Has ys c) → length xs ≤ length ys
-row-within [] ys up in′ = omega arith
-row-within (x ∷ xs) ys up in′ =
-    let rest = row-within xs _ (ascending-tail x xs up) (λ c h.
-    has-kept (λ y. not (eqb x y)) ys c (in′ c (has-tail x xs h)) (not-from-false (eqb x c) (ne-eqb x c (λ e. omega (arith, ascending-head x xs up c h))))) in
-    let itself = has-kept (eqb x) ys x (in′ x (has-head x xs)) (eq-eqb x x refl) in
-    omega (arith, rest, itself .1, length-kept-by-both (eqb x) (λ y. not (eqb x y)) (λ _. refl) ys)
 
 module _ (m : Meaning) (most : ℕ) (law : Lawful m most) where
   -- what follows from one of the list is among the consequences of all of them

@@ -1,9 +1,8 @@
 -- What follows from a list is entered among a row, from the largest code down.
 use mathlib.Core.Path.{_≡_, refl, sym, ap, subst, _∙_}
 use mathlib.Core.List.{List, [], _∷_, _++_}
-use mathlib.Core.Bool.{Bool, true}
 use mathlib.Core.Logic.{_⊎_, inl, inr, _↔_}
-use Prim.Native.Nat.{ℕ, suc, _+_, _-_, _≤_, _<_, _^_}
+use Prim.Native.Nat.{ℕ, _+_, _-_, _≤_, _<_, _^_}
 use native.Mathlib.Omega.{arith}
 use lib.Dec.{ltb}
 use lib.ListN.{length, take, drop}
@@ -11,7 +10,7 @@ use Rattle.std.specs.declared.option.Option.{Option}
 use Rattle.std.specs.declared.option.Option.the-variants.{Some, None}
 use Rattle.std.specs.shelf.Lists.{Has, kept-by}
 use Rattle.std.proofs.shelf.Elements.{has-append-left, has-append-right, has-push, has-push-cases}
-use Rattle.std.proofs.shelf.Lists.{append-assoc, append-nil, length-append, length-push, length-take-le, take-append-drop, take-all, drop-all}
+use Rattle.std.proofs.shelf.Lists.{append-assoc, append-nil, length-append, length-push, length-take-le, take-append-drop, drop-all}
 use Rattle.std.proofs.shelf.Tests.{cases-lt, ltb-true, lt-ltb}
 use Rattle.rows.specs.Rows.{Ascending, RowOf}
 use Rattle.rows.proofs.Ascents.{ascending-none, ascending-cons, ascending-append, ascending-front, ascending-back, ascending-kept, ascending-push, same-rows}

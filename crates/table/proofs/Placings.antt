@@ -1,15 +1,13 @@
 -- One code finds its place in a row: what the block move and the write leave.
-use mathlib.Core.Path.{_≡_, refl, sym, ap, subst, _∙_}
-use mathlib.Core.List.{List, [], _∷_, _++_}
+use mathlib.Core.Path.{_≡_, refl, sym, ap, _∙_}
+use mathlib.Core.List.{List, _∷_, _++_}
 use mathlib.Core.Logic.{_⊎_, inl, inr}
 use Prim.Native.Nat.{ℕ, _+_, _-_, _≤_, _<_}
 use native.Mathlib.Omega.{arith}
-use lib.ListN.{length, getD, take, drop, set}
+use lib.ListN.{length, take, drop, set}
 use lib.Seq.{paste}
-use Rattle.std.specs.declared.result.Result.{Result}
 use Rattle.std.specs.declared.result.Result.the-variants.{Ok, Err}
 use Rattle.std.specs.shelf.Lists.{Has}
-use Rattle.std.proofs.shelf.Elements.{has-getD}
 use Rattle.std.proofs.shelf.Lists.{append-assoc, length-take-le, length-drop, length-append, take-append-drop, take-take, take-set-le, take-append-le, drop-set, drop-more, drop-at, getD-take, getD-drop}
 use Rattle.std.proofs.shelf.Parts.{between-is}
 use Rattle.std.proofs.shelf.Tests.{cases-lt}

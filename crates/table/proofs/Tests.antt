@@ -3,7 +3,7 @@ use mathlib.Core.Path.{_≡_, refl, sym, ap, subst, _∙_}
 use mathlib.Core.List.{List, [], _∷_}
 use mathlib.Core.Bool.{Bool, true, false, not}
 use mathlib.Core.Logic.{_⊎_, inl, inr}
-use Prim.Native.Nat.{ℕ, _<_}
+use Prim.Native.Nat.{ℕ}
 use lib.Dec.{eqb}
 use lib.ListN.{length, getD}
 use Rattle.std.specs.Options.{isSome}
@@ -15,9 +15,9 @@ use Rattle.std.proofs.shelf.Elements.{has-getD}
 use Rattle.std.proofs.shelf.Tests.{both-ways, cases-bool, not-true, not-false, not-from-false, or-cases, or-left, or-right, eqb-true, eq-eqb}
 use Rattle.rows.proofs.Members.{each-member, has-none, has-head, has-tail, has-cases}
 use Rattle.rows.proofs.Tests.{false-from-not-true}
-use Rattle.book.specs.Meaning.{Meaning, Follows}
+use Rattle.book.specs.Meaning.{Meaning}
 use Rattle.book.specs.Lists.{FirstAgainst}
-use Rattle.table.specs.Facts.{ClashesWithNone, LeadsToNone}
+use Rattle.table.specs.Facts.{ClashesWithNone, NoneFollows}
 use Rattle.table.specs.Checks.{any, stays, untouched}
 
 -- some number of the list passes
@@ -54,7 +54,7 @@ module _ (m : Meaning) (list : List ℕ) (c : ℕ) where
       let tells = none-tells (λ d. m .clash d c) list in
       ((λ e d h. false-from-not-true (m .clash d c) (tells .0 e d h)), λ none. tells .1 (λ d h. both-ways (m .clash d c) (none d h)))
 
-  pub untouched-tells : Decides (untouched m list c) (LeadsToNone m list c)
+  pub untouched-tells : Decides (untouched m list c) (NoneFollows m list c)
   untouched-tells =
       let tells = none-tells (λ d. any (eqb d) (m .consequences c)) list in
       ((λ e d h f. tells .0 e d h (has-tells d (m .consequences c) .1 f)), λ none. tells .1 (λ d h q. none d h (has-tells d (m .consequences c) .0 q)))

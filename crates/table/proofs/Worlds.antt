@@ -16,15 +16,15 @@ use Rattle.rows.proofs.Tests.{false-from-not-true}
 use Rattle.book.specs.Meaning.{Meaning, Lawful, Follows, AllKnown, NothingClashes}
 use Rattle.book.specs.Lists.{NoWorldHoldsAll}
 use Rattle.book.proofs.Peace.{clash-is-symmetric, causes-clash, none-against, none-clash, first-clash-tells}
-use Rattle.table.specs.Facts.{ClashesWithNone, AfterDelivery, Readable}
+use Rattle.table.specs.Facts.{ClashesWithNone, AfterDelivery, ShortAndKnown}
 use Rattle.table.specs.Refusals.{ListRefused, DeliveryRefused}
 use Rattle.table.specs.Calls.{DeliveryAccepted, Delivers, Withdraws}
 use Rattle.table.specs.Worlds.{SomeWorldHoldsExactly, TurnedAway, DeliveryByWorlds, WithdrawalByWorlds}
 use Rattle.table.specs.declared.refusals.Refusal.{Refusal}
 
 -- a list that is refused for its length or for an unknown code cannot be carried out
-pub refused-is-not-readable : (m : Meaning) (list : List ℕ) (e : Refusal) → ListRefused m list e → Readable m list → ⊥
-refused-is-not-readable m list e r read = elim r [
+pub refused-is-not-short-and-known : (m : Meaning) (list : List ℕ) (e : Refusal) → ListRefused m list e → ShortAndKnown m list → ⊥
+refused-is-not-short-and-known m list e r read = elim r [
   | inl a ↦ omega (arith, a .0, read .short)
   | inr a ↦ let f = a .1 .1 in both-ways _ (f .1) (read .known _ (has-getD list (a .1 .0) 0 (f .0)))
 ]
@@ -37,13 +37,13 @@ module _ (m : Meaning) (most : ℕ) (law : Lawful m most) where
       law .clash-is-no-common-world a b (k .0) (k .1) .0 e w ha hb)
 
   -- where nothing clashes, it is right not to refuse with 8
-  rightly-not-contradictory : (list : List ℕ) (r : Result (ℕ × ℕ) Refusal) → NothingClashes m list → (TurnedAway 8 r → ⊥) → Readable m list → TurnedAway 8 r ↔ NoWorldHoldsAll m list
+  rightly-not-contradictory : (list : List ℕ) (r : Result (ℕ × ℕ) Refusal) → NothingClashes m list → (TurnedAway 8 r → ⊥) → ShortAndKnown m list → TurnedAway 8 r ↔ NoWorldHoldsAll m list
   rightly-not-contradictory list r none other read = ((λ e. absurd (other e)), λ nowhere. absurd (both-ways false refl (first-clash-tells m most law list None none (read .known) .1 nowhere)))
 
   -- a list that can be read is refused with 8 exactly when no world holds it
-  refused-by-worlds : (size : ℕ) (list old : List ℕ) (e : Refusal) → DeliveryRefused m size list old e → Readable m list → TurnedAway 8 (Err e) ↔ NoWorldHoldsAll m list
+  refused-by-worlds : (size : ℕ) (list old : List ℕ) (e : Refusal) → DeliveryRefused m size list old e → ShortAndKnown m list → TurnedAway 8 (Err e) ↔ NoWorldHoldsAll m list
   refused-by-worlds size list old e r read = elim r [
-    | inl a ↦ absurd (refused-is-not-readable m list e a read)
+    | inl a ↦ absurd (refused-is-not-short-and-known m list e a read)
     | inr a ↦ elim a [
       | inl b ↦ ((λ _. first-clash-tells m most law list (Some (b .1 .0)) (b .1 .1) (read .known) .0 refl), λ _. b .1 .2 .0)
       | inr b ↦ rightly-not-contradictory list (Err e) (b .1) (λ eight. omega (arith, eight, b .2 .3 .0)) read
@@ -53,7 +53,7 @@ module _ (m : Meaning) (most : ℕ) (law : Lawful m most) where
   pub delivery-by-worlds : (size : ℕ) (list old new : List ℕ) (r : Result (ℕ × ℕ) Refusal) → Delivers m size list old new r → DeliveryByWorlds m list old new r
   delivery-by-worlds size list old new (Ok counts) d = record {
     contradictory = rightly-not-contradictory list (Ok counts) (d .nothing-clashes) (λ no. no);
-    delivered-are-held = λ _ c h. d .leaves .members c .1 (inl (c, h, law .itself-follows c (d .readable .known c h)));
+    delivered-are-held = λ _ c h. d .leaves .members c .1 (inl (c, h, law .itself-follows c (d .short-and-known .known c h)));
     compatible-facts-stay = λ _ set within w all these c h. d .leaves .members c .1 (inr (within c h, λ b k. common-world w b c (all b k) (these c h)));
     new-facts-hold = λ _ c only w all. elim (d .leaves .members c .0 (only .0)) [
       | inl f ↦ law .world-holds-what-follows (f .0) c (f .2) w (all (f .0) (f .1))
@@ -69,7 +69,7 @@ module _ (m : Meaning) (most : ℕ) (law : Lawful m most) where
 
   pub withdrawal-by-worlds : (list old new : List ℕ) (r : Result (ℕ × ℕ) Refusal) → Withdraws m list old new r → WithdrawalByWorlds m list old new r
   withdrawal-by-worlds list old new (Ok counts) d = record {
-    named-are-gone = λ _ c h k. d .0 .leaves .members c .0 k .1 c h (law .itself-follows c (d .0 .readable .known c h));
+    named-are-gone = λ _ c h k. d .0 .leaves .members c .0 k .1 c h (law .itself-follows c (d .0 .short-and-known .known c h));
     none-is-new = λ _ c k. d .0 .leaves .members c .0 k .0;
     other-facts-stay = λ _ set within w these none c h. d .0 .leaves .members c .1 (within c h, λ b k f. none b k (law .world-holds-what-follows c b f w (these c h)));
   }

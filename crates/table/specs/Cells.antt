@@ -7,6 +7,6 @@ use lib.ListN.{length, drop, replicate}
 abbrev pub used : List ℕ → ℕ
 used cells = min (length cells) 65536
 
--- the facts in the first cells, zeros in the other cells that are used, and the rest as it was
+-- facts, at most as many as cells are used, in the first cells, zeros in the other cells used, and the rest as it was
 abbrev pub laid : List ℕ → List ℕ → List ℕ
 laid facts cells = facts ++ (replicate (used cells - length facts) 0 ++ drop (used cells) cells)

@@ -1,4 +1,5 @@
 -- The steps of a delivery: tests of a held fact, and what is found before anything is written.
+-- Private functions alone cite this file; no contract of a public call rests on it.
 use mathlib.Core.Path.{_≡_}
 use mathlib.Core.List.{List, [], _∷_, _++_}
 use mathlib.Core.Bool.{Bool, false, not, _||_}
@@ -6,15 +7,11 @@ use mathlib.Core.Logic.{_⊎_}
 use Prim.Native.Nat.{ℕ, _+_, _≤_, _<_}
 use lib.Dec.{eqb}
 use lib.ListN.{length, getD, take, drop}
-use Rattle.std.specs.declared.option.Option.the-variants.{Some}
 use Rattle.std.specs.shelf.Lists.{Has, kept-by}
 use Rattle.rows.specs.Rows.{Count}
 use Rattle.book.specs.Meaning.{Meaning, NothingClashes}
-use Rattle.book.specs.Lists.{FirstClash}
-use Rattle.table.specs.Facts.{Readable}
-use Rattle.table.specs.Refusals.{Says}
+use Rattle.table.specs.Facts.{ShortAndKnown}
 use Rattle.table.specs.Descent.{Comes}
-use Rattle.table.specs.declared.refusals.Refusal.{Refusal}
 
 -- whether some number of the list passes the test
 abbrev pub any : (ℕ → Bool) → List ℕ → Bool
@@ -29,13 +26,9 @@ stays m list c = not (any (λ d. m .clash d c) list)
 abbrev pub untouched : Meaning → List ℕ → ℕ → Bool
 untouched m list c = not (any (λ d. any (eqb d) (m .consequences c)) list)
 
--- number 8 and the places of the first two facts that clash
-abbrev pub ClashRefused : Meaning → List ℕ → Refusal → Type 0
-ClashRefused m list e = (p : ℕ × ℕ) × FirstClash m list (Some p) × Says e 8 (p .0 ∷ (p .1 ∷ []))
-
 -- a delivery that can be entered: `come` facts come, and there is room
 pub record Enterable (m : Meaning) (list old : List ℕ) (size come : ℕ) : Type 0 where
-  pub readable : Readable m list
+  pub short-and-known : ShortAndKnown m list
   pub nothing-clashes : NothingClashes m list
   pub coming : Count (Comes m list old) come
   pub room : length (kept-by (stays m list) old) + come ≤ size

@@ -1,4 +1,5 @@
 -- Which consequences of a list are still to come, where they are taken from the largest code down.
+-- Private functions alone cite this file; no contract of a public call rests on it.
 use mathlib.Core.Path.{_≡_}
 use mathlib.Core.List.{List}
 use Prim.Native.Nat.{ℕ, _-_, _≤_, _<_}

@@ -13,8 +13,8 @@ abbrev pub ClashesWithNone : Meaning → List ℕ → ℕ → Type 0
 ClashesWithNone m list c = (d : ℕ) → Has list d → m .clash d c ≡ false
 
 -- none of the list follows from c
-abbrev pub LeadsToNone : Meaning → List ℕ → ℕ → Type 0
-LeadsToNone m list c = (d : ℕ) → Has list d → Follows m c d → ⊥
+abbrev pub NoneFollows : Meaning → List ℕ → ℕ → Type 0
+NoneFollows m list c = (d : ℕ) → Has list d → Follows m c d → ⊥
 
 -- a delivery leaves what follows from a delivered fact, and the earlier facts that clash with no delivered one
 abbrev pub AfterDelivery : Meaning → List ℕ → List ℕ → ℕ → Type 0
@@ -22,7 +22,7 @@ AfterDelivery m list old c = FollowsFromOne m list c ⊎ (Has old c × ClashesWi
 
 -- a withdrawal leaves the earlier facts from which no named fact follows
 abbrev pub AfterWithdrawal : Meaning → List ℕ → List ℕ → ℕ → Type 0
-AfterWithdrawal m list old c = Has old c × LeadsToNone m list c
+AfterWithdrawal m list old c = Has old c × NoneFollows m list c
 
 -- a held code that the book does not know stays
 abbrev pub UnknownStay : Meaning → List ℕ → List ℕ → Type 0
@@ -32,7 +32,7 @@ UnknownStay m old new = (c : ℕ) → m .known c ≡ false → Has old c → Has
 abbrev pub OnlyIn : List ℕ → List ℕ → ℕ → Type 0
 OnlyIn these those c = Has these c × (Has those c → ⊥)
 
--- a list that can be carried out: at most 256 codes, and the book knows them all
-pub record Readable (m : Meaning) (list : List ℕ) : Type 0 where
+-- at most 256 codes, all of which the book knows
+pub record ShortAndKnown (m : Meaning) (list : List ℕ) : Type 0 where
   pub short : length list ≤ 256
   pub known : AllKnown m list

@@ -9,6 +9,6 @@ use Rattle.table.specs.declared.Table.{Table}
 abbrev pub cells-of : Table → List ℕ
 cells-of t = now (t .cells)
 
--- the facts held
+-- the facts held: those in the first cells
 abbrev pub facts-of : Table → List ℕ
 facts-of t = take (t .held) (cells-of t)

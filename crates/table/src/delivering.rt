@@ -1,8 +1,7 @@
 // Deliveries.
 ghost use mathlib.Core.Path.{_≡_};
-ghost use mathlib.Core.Bool.{Bool};
 ghost use denote.Ref.{now, name};
-ghost use Prim.Native.Nat.{ℕ, _*_, _≤_};
+ghost use Prim.Native.Nat.{_*_, _≤_};
 ghost use lib.ListN.{length};
 ghost use Rattle.std.specs.Results.{Cases};
 ghost use Rattle.rows.specs.Rows.{RowOf, Count};
@@ -13,6 +12,7 @@ ghost use Rattle.table.specs.Checks.{stays, Enterable};
 ghost use Rattle.table.specs.Calls.{Delivers};
 ghost use Rattle.table.specs.Worlds.{DeliveryByWorlds, SomeWorldHoldsExactly};
 ghost use Rattle.table.specs.View.{cells-of, facts-of};
+use crate::CELL_LIMIT;
 use crate::Refusal;
 use crate::Table;
 use crate::checking::check_clash;
@@ -66,7 +66,7 @@ impl<'a> Table<'a> {
         check_list(book, list)?;
         check_clash(book, list)?;
         let come = coming(book, list, &self.cells[0..self.held]);
-        let size = self.cells.len().min(65536);
+        let size = self.cells.len().min(CELL_LIMIT);
         if self.held + come > size {
             let facts = count(&Compatible { book, list }, &self.cells[0..self.held]) + come;
             if facts > size {

@@ -1,6 +1,6 @@
 // What follows from one of a list of facts, from the largest code down.
 ghost use mathlib.Core.Path.{_≡_};
-ghost use Prim.Native.Nat.{ℕ, _+_, _-_, _≤_, _<_, _^_};
+ghost use Prim.Native.Nat.{_+_, _-_, _≤_, _<_, _^_};
 ghost use lib.ListN.{length, getD};
 ghost use Rattle.book.specs.Meaning.{FollowsFromOne};
 ghost use Rattle.table.specs.Descent.{DescendsAt, FollowsBelow, Largest, LargestHead};
@@ -65,7 +65,7 @@ impl Descent {
         largest
     }
 
-    // Leaves `code` behind, up to which all are still to come.
+    // CarriedOut `code` behind, up to which all are still to come.
     fn pass<B: Book>(&mut self, book: &B, list: &[u64], code: u64)
         requires short { ⌜ length (now list) ≤ 256 ⌝ }
         requires at { ⌜ DescendsAt (meaning (now book)) (now list) (code + 1) (now self .left) (now self .heads) ⌝ }

@@ -1,8 +1,6 @@
 // What a delivery brings: how many facts come, and their entry among those that stay.
-ghost use mathlib.Core.Path.{_≡_};
-ghost use mathlib.Core.Bool.{Bool};
 ghost use mathlib.Core.Logic.{_⊎_};
-ghost use Prim.Native.Nat.{ℕ, _-_, _≤_, _<_};
+ghost use Prim.Native.Nat.{_-_, _≤_, _<_};
 ghost use lib.ListN.{length, take};
 ghost use Rattle.std.specs.shelf.Lists.{Has};
 ghost use Rattle.rows.specs.Rows.{Ascending, RowOf, Count};

@@ -1,11 +1,9 @@
 // A journal of calls, carried out on a new table.
 ghost use mathlib.Core.Path.{_≡_};
 ghost use denote.Ref.{name};
-ghost use Prim.Native.Nat.{min};
-ghost use lib.ListN.{length, take};
 ghost use Rattle.table.specs.Cells.{used, laid};
 ghost use Rattle.table.specs.View.{cells-of, facts-of};
-ghost use Rattle.table.specs.Runs.{Leaves, Replayed};
+ghost use Rattle.table.specs.Runs.{CarriedOut, Replayed};
 use crate::Refusal;
 use crate::RefusalDebug;
 use crate::RefusalPartialEq;
@@ -17,8 +15,11 @@ use book::Book;
 pub enum Call<'a> {
     Deliver(&'a [u64]),
     Withdraw(&'a [u64]),
+    // How many facts are held.
     CountHeld,
+    // Whether the code is held.
     IsHeld(u64),
+    // Number k, from 0, of the facts held in ascending order.
     NthHeld(usize),
 }
 
@@ -27,15 +28,18 @@ pub enum Call<'a> {
 pub enum Answer {
     // To a delivery or a withdrawal: the numbers of facts gone and come, or why the list is refused.
     Changed(Result<(usize, usize), Refusal>),
+    // To `CountHeld`.
     Number(usize),
+    // To `IsHeld`.
     Held(bool),
+    // To `NthHeld`.
     Fact(Option<u64>),
 }
 
 impl<'a> Table<'a> {
     // Carries out one call.
-    pub fn carry_out<B: Book>(&mut self, book: &B, call: &Call<'_>) -> Answer
-        ensures facts { λ r. ⌜ Leaves (meaning (now (book .entry))) (used (cells-of (now (self .entry)))) (facts-of (now (self .entry))) (now (call .entry)) (facts-of (now (self .exit))) r ⌝ }
+    fn carry_out<B: Book>(&mut self, book: &B, call: Call<'_>) -> Answer
+        ensures facts { λ r. ⌜ CarriedOut (meaning (now (book .entry))) (used (cells-of (now (self .entry)))) (facts-of (now (self .entry))) (call .entry) (facts-of (now (self .exit))) r ⌝ }
         ensures cells { λ _. ⌜ cells-of (now (self .exit)) ≡ laid (facts-of (now (self .exit))) (cells-of (now (self .entry))) ⌝ }
         ensures named { λ _. ⌜ name (now (self .exit) .cells) ≡ name (now (self .entry) .cells) ⌝ }
     {
@@ -43,27 +47,29 @@ impl<'a> Table<'a> {
             Call::Deliver(list) => Answer::Changed(self.deliver(book, list)),
             Call::Withdraw(list) => Answer::Changed(self.withdraw(book, list)),
             Call::CountHeld => Answer::Number(self.count_held()),
-            Call::IsHeld(code) => Answer::Held(self.holds(*code)),
-            Call::NthHeld(k) => Answer::Fact(self.nth_held(*k)),
+            Call::IsHeld(code) => Answer::Held(self.is_held(code)),
+            Call::NthHeld(k) => Answer::Fact(self.nth_held(k)),
         }
     }
 }
 
-// Makes a table over the cells and carries the calls out on it, as many as there are places for answers. The answers
-// are written in order, and the number of calls carried out is returned.
-pub fn replay<B: Book>(
+// Makes a table over the cells, carries the calls out on it and gives it back. The answers are written in order into
+// `answers`, as far as it has places. The contract states the law of runs: see `Replayed`.
+pub fn replay<'a, B: Book>(
     book: &B,
-    cells: &mut [u64],
+    cells: &'a mut [u64],
     calls: &[Call<'_>],
     answers: &mut [Option<Answer>],
-) -> usize
-    ensures number { λ r. ⌜ r ≡ min (length (now (calls .entry))) (length (now (answers .entry))) ⌝ }
-    ensures replayed { λ r. ⌜ Replayed (meaning (now (book .entry))) (now (cells .entry)) (now (cells .exit)) (take r (now (calls .entry))) (now (answers .entry)) (now (answers .exit)) ⌝ }
+) -> Table<'a>
+    ensures replayed { λ r. ⌜ Replayed (meaning (now (book .entry))) (now (cells .entry)) (cells-of r) (facts-of r) (now (calls .entry)) (now (answers .entry)) (now (answers .exit)) ⌝ }
+    ensures named { λ r. ⌜ name (r .cells) ≡ name (cells .entry) ⌝ }
 {
-    let n = calls.len().min(answers.len());
     let mut table = Table::over(cells);
-    for i in 0..n {
-        answers[i] = Some(table.carry_out(book, &calls[i]));
+    for i in 0..calls.len() {
+        let answer = table.carry_out(book, calls[i]);
+        if i < answers.len() {
+            answers[i] = Some(answer);
+        }
     }
-    n
+    table
 }

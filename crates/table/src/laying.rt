@@ -1,9 +1,7 @@
 // Facts leave and enter the cells in which a table's facts are laid out.
 ghost use mathlib.Core.Path.{_≡_};
-ghost use mathlib.Core.Bool.{Bool};
-ghost use mathlib.Core.List.{List};
 ghost use mathlib.Core.Logic.{_⊎_};
-ghost use Prim.Native.Nat.{ℕ, _+_, _≤_};
+ghost use Prim.Native.Nat.{_+_, _≤_};
 ghost use lib.ListN.{length, take};
 ghost use Rattle.std.specs.shelf.Lists.{Has, kept-by};
 ghost use Rattle.rows.specs.Rows.{Ascending, RowOf, Count};
@@ -26,7 +24,13 @@ pub(crate) fn retain<T: Test>(test: &T, cells: &mut [u64], held: usize) -> usize
 }
 
 // Enters all that follows from one of the list among the facts in the first `kept` cells; `come` codes come.
-pub(crate) fn enter_all<B: Book>(book: &B, list: &[u64], cells: &mut [u64], kept: usize, come: usize)
+pub(crate) fn enter_all<B: Book>(
+    book: &B,
+    list: &[u64],
+    cells: &mut [u64],
+    kept: usize,
+    come: usize,
+)
     requires short { ⌜ length (now list) ≤ 256 ⌝ }
     requires fits { ⌜ kept + come ≤ used (now cells) ⌝ }
     requires laid { ⌜ now cells ≡ laid (take kept (now cells)) (now cells) ⌝ }

@@ -1,10 +1,10 @@
 // A table of facts under any book of rules: it takes deliveries and withdrawals, and is asked what it holds.
 ghost use mathlib.Core.Path.{_≡_};
 ghost use denote.Ref.{now};
-ghost use Prim.Native.Nat.{_-_, _≤_};
-ghost use lib.ListN.{take, drop, replicate};
+ghost use Prim.Native.Nat.{_≤_};
+ghost use lib.ListN.{take};
 ghost use Rattle.rows.specs.Rows.{Ascending};
-ghost use Rattle.table.specs.Cells.{used};
+ghost use Rattle.table.specs.Cells.{used, laid};
 
 mod checking;
 mod delivering;
@@ -28,6 +28,12 @@ pub use refusals::RefusalDisplay;
 pub use refusals::RefusalError;
 pub use refusals::RefusalPartialEq;
 
+// No list has more codes.
+const LIST_LIMIT: usize = 256;
+
+// No table uses more cells.
+const CELL_LIMIT: usize = 65536;
+
 // A table over cells that its maker lends. It uses all of them up to the first 65,536. Its facts stand in the
 // first cells in ascending order, the other cells in use hold 0, and the rest is never written.
 #[derive(Drop)]
@@ -36,5 +42,5 @@ pub struct Table<'a> {
     held: usize,
     ghost fits: { held ≤ used (now cells) },
     ghost ascends: { Ascending (take held (now cells)) },
-    ghost clear: { drop held (take (used (now cells)) (now cells)) ≡ replicate (used (now cells) - held) 0 },
+    ghost layout: { now cells ≡ laid (take held (now cells)) (now cells) },
 }

@@ -4,6 +4,7 @@ ghost use mathlib.Core.List.{[]};
 ghost use denote.Ref.{name};
 ghost use Rattle.table.specs.Cells.{laid};
 ghost use Rattle.table.specs.View.{cells-of, facts-of};
+use crate::CELL_LIMIT;
 use crate::Table;
 
 impl<'a> Table<'a> {
@@ -13,7 +14,7 @@ impl<'a> Table<'a> {
         ensures cells { λ r. ⌜ cells-of r ≡ laid [] (now (cells .entry)) ⌝ }
         ensures named { λ r. ⌜ name (r .cells) ≡ name (cells .entry) ⌝ }
     {
-        for i in 0..cells.len().min(65536) {
+        for i in 0..cells.len().min(CELL_LIMIT) {
             cells[i] = 0;
         }
         Table { cells, held: 0 }

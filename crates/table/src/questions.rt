@@ -4,6 +4,7 @@ ghost use lib.ListN.{length};
 ghost use Rattle.std.specs.Orderings.{Decides};
 ghost use Rattle.std.specs.shelf.Lists.{Has};
 ghost use Rattle.std.specs.shelf.Maps.{nth};
+ghost use Rattle.rows.specs.Rows.{Ascending};
 ghost use Rattle.table.specs.View.{facts-of};
 use crate::Table;
 use rows::find;
@@ -17,7 +18,7 @@ impl<'a> Table<'a> {
     }
 
     // Whether the code is held.
-    pub fn holds(&self, code: u64) -> bool
+    pub fn is_held(&self, code: u64) -> bool
         ensures { λ r. ⌜ Decides r (Has (facts-of (now (self .entry))) code) ⌝ }
     {
         find(&self.cells[0..self.held], code).is_ok()
@@ -25,7 +26,8 @@ impl<'a> Table<'a> {
 
     // Number `k`, from 0, of the facts held in ascending order.
     pub fn nth_held(&self, k: usize) -> Option<u64>
-        ensures { λ r. ⌜ r ≡ nth (facts-of (now (self .entry))) k ⌝ }
+        ensures number { λ r. ⌜ r ≡ nth (facts-of (now (self .entry))) k ⌝ }
+        ensures ascending { λ _. ⌜ Ascending (facts-of (now (self .entry))) ⌝ }
     {
         if k >= self.held {
             return None;

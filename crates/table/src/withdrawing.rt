@@ -1,8 +1,6 @@
 // Withdrawals.
 ghost use mathlib.Core.Path.{_≡_};
-ghost use mathlib.Core.Bool.{Bool};
 ghost use denote.Ref.{now, name};
-ghost use Prim.Native.Nat.{ℕ};
 ghost use Rattle.std.specs.Results.{Cases};
 ghost use Rattle.rows.specs.Rows.{RowOf, Count};
 ghost use Rattle.table.specs.Cells.{laid};

@@ -53,8 +53,8 @@ fn a_thing_is_moved() -> Result<(), Fail> {
     check_eq(table.nth_held(2), Some(2306))?;
     check_eq(table.nth_held(3), None)?;
     check_eq(table.deliver(&book, &[2307]), Ok((1, 1)))?;
-    check(!table.holds(2306))?;
-    check(table.holds(2305)).note("9 in 1 stays: it does not clash with 9 in 3")?;
+    check(!table.is_held(2306))?;
+    check(table.is_held(2305)).note("9 in 1 stays: it does not clash with 9 in 3")?;
     check_eq(table.deliver(&book, &[2308]), Ok((2, 1)))?;
     check_eq(table.deliver(&book, &[2308, 2308, 2304]), Ok((0, 0)))?;
     check_eq(table.count_held(), 2)?;
@@ -73,8 +73,8 @@ fn what_leads_to_a_named_fact_goes_with_it() -> Result<(), Fail> {
     let mut table = Table::over(&mut cells);
     check_eq(table.deliver(&book, &[2306, 2052]), Ok((0, 5))).note("9 in 2 and 8 in 4")?;
     check_eq(table.withdraw(&book, &[2305]), Ok((2, 0))).note("9 in 1, and in 2")?;
-    check(table.holds(2304))?;
-    check(table.holds(2052))?;
+    check(table.is_held(2304))?;
+    check(table.is_held(2052))?;
     check_eq(cells[0], 2048)?;
     check_eq(cells[1], 2052)?;
     check_eq(cells[2], 2304)?;
@@ -94,7 +94,9 @@ fn at_most_256_codes() -> Result<(), Fail> {
     check_eq(table.deliver(&book, &list[0..256]), Ok((0, 256)))?;
     check_eq(table.withdraw(&book, &list[0..256]), Ok((256, 0)))?;
     list[0] = 5;
-    check_eq(table.deliver(&book, &list), Err(Refusal::TooLong(257))).note("too long before unknown")
+    check_eq(table.deliver(&book, &list), Err(Refusal::TooLong(257))).note(
+        "too long before unknown",
+    )
 }
 
 #[test]
@@ -103,11 +105,24 @@ fn refusals_in_their_order() -> Result<(), Fail> {
     let mut cells = [0; 3];
     let mut table = Table::over(&mut cells);
     check_eq(table.deliver(&book, &[2306]), Ok((0, 3)))?;
-    check_eq(table.deliver(&book, &[2306, 2308, 2309, 5]), Err(Refusal::Unknown(2)))?;
-    check_eq(table.withdraw(&book, &[2306, 2309]), Err(Refusal::Unknown(1)))?;
-    check_eq(table.deliver(&book, &[2304, 2305, 2306, 2308, 2307]), Err(Refusal::Clash((1, 3)))).note("9 in 1 and in 4")?;
-    check_eq(table.deliver(&book, &[0, 2306]), Err(Refusal::Full(4))).note("0 in 0 comes, and nothing goes")?;
-    check_eq(table.deliver(&book, &[0, 2307]), Err(Refusal::Full(4))).note("0 in 0 and 9 in 3 come, 9 in 2 goes")?;
+    check_eq(
+        table.deliver(&book, &[2306, 2308, 2309, 5]),
+        Err(Refusal::Unknown(2)),
+    )?;
+    check_eq(
+        table.withdraw(&book, &[2306, 2309]),
+        Err(Refusal::Unknown(1)),
+    )?;
+    check_eq(
+        table.deliver(&book, &[2304, 2305, 2306, 2308, 2307]),
+        Err(Refusal::Clash((1, 3))),
+    ).note("9 in 1 and in 4")?;
+    check_eq(table.deliver(&book, &[0, 2306]), Err(Refusal::Full(4))).note(
+        "0 in 0 comes, and nothing goes",
+    )?;
+    check_eq(table.deliver(&book, &[0, 2307]), Err(Refusal::Full(4))).note(
+        "0 in 0 and 9 in 3 come, 9 in 2 goes",
+    )?;
     check_eq(table.deliver(&book, &[0, 2308]), Ok((2, 2))).note("9 in 1 and in 2 go")?;
     check_eq(table.count_held(), 3)?;
     check_eq(Refusal::TooLong(257).number(), 6)?;
@@ -150,7 +165,10 @@ fn the_last_of_65536_cells() -> Result<(), Fail> {
     }
     check_eq(table.count_held(), 65536)?;
     check_eq(table.nth_held(65535), Some(16776960))?;
-    check_eq(table.deliver(&plant()?, &[2304, 2306]), Err(Refusal::Full(65538)))?;
+    check_eq(
+        table.deliver(&plant()?, &[2304, 2306]),
+        Err(Refusal::Full(65538)),
+    )?;
     check_eq(cells[65535], 16776960)?;
     check_eq(cells[65536], 7)
 }
@@ -164,7 +182,7 @@ fn a_code_that_the_book_does_not_know_stays() -> Result<(), Fail> {
     check_eq(table.deliver(&book, &[2308]), Ok((0, 2)))?;
     check_eq(table.deliver(&other, &[2304, 2048]), Ok((0, 1)))?;
     check_eq(table.withdraw(&other, &[2304]), Ok((1, 0)))?;
-    check(table.holds(2308)).note("no place 4 in the other book")
+    check(table.is_held(2308)).note("no place 4 in the other book")
 }
 
 #[test]
@@ -184,10 +202,14 @@ fn a_journal_is_replayed() -> Result<(), Fail> {
     ];
     let mut answers = [None; 10];
     answers[9] = Some(Answer::Number(9));
-    check_eq(replay(&book, &mut cells, &calls, &mut answers), 9)?;
+    let table = replay(&book, &mut cells, &calls, &mut answers);
+    check_eq(table.count_held(), 2)?;
     check_eq(answers[0], Some(Answer::Changed(Ok((0, 3)))))?;
     check_eq(answers[1], Some(Answer::Held(true)))?;
-    check_eq(answers[2], Some(Answer::Changed(Err(Refusal::Clash((0, 1))))))?;
+    check_eq(
+        answers[2],
+        Some(Answer::Changed(Err(Refusal::Clash((0, 1))))),
+    )?;
     check_eq(answers[3], Some(Answer::Changed(Err(Refusal::Full(4)))))?;
     check_eq(answers[4], Some(Answer::Number(3)))?;
     check_eq(answers[5], Some(Answer::Fact(Some(2306))))?;
@@ -200,12 +222,16 @@ fn a_journal_is_replayed() -> Result<(), Fail> {
 }
 
 #[test]
-fn as_many_calls_as_places_for_answers() -> Result<(), Fail> {
+fn a_table_is_rebuilt() -> Result<(), Fail> {
     let book = plant()?;
-    let mut cells = [0; 3];
-    let calls = [Call::Deliver(&[2304]), Call::Withdraw(&[2304])];
+    let mut cells = [7; 3];
+    let calls = [Call::Deliver(&[2306]), Call::Withdraw(&[2306])];
     let mut answers = [None; 1];
-    check_eq(replay(&book, &mut cells, &calls, &mut answers), 1)?;
-    check_eq(answers[0], Some(Answer::Changed(Ok((0, 1)))))?;
-    check_eq(cells[0], 2304)
+    let mut table = replay(&book, &mut cells, &calls, &mut answers);
+    check_eq(answers[0], Some(Answer::Changed(Ok((0, 3)))))?;
+    check_eq(table.count_held(), 2).note(
+        "all calls are carried out, with one place for their answers",
+    )?;
+    check_eq(table.deliver(&book, &[2307]), Ok((0, 1)))?;
+    check_eq(cells[2], 2307)
 }

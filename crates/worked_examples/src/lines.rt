@@ -1,5 +1,6 @@
 // Lines that the program does not come to print.
 use console::added_line;
+use console::answer_line;
 use console::changed_line;
 use console::clash_line;
 use console::following_lines;
@@ -8,6 +9,7 @@ use place_book::Draft;
 use place_book::PlaceRules;
 use place_book::Refusal;
 use std::test::*;
+use table::Answer;
 use table::Table;
 
 #[test]
@@ -28,10 +30,20 @@ fn what_follows(rt: LibcRuntime) -> Result<(), Fail> {
 #[test]
 fn answers_of_a_table(rt: LibcRuntime) -> Result<(), Fail> {
     check(changed_line(rt.alloc(), Ok((65536, 0)))?.as_str() == "ok 65536 0")?;
-    check(changed_line(rt.alloc(), Err(table::Refusal::TooLong(257)))?.as_str() == "refused 6 257")?;
+    check(
+        changed_line(rt.alloc(), Err(table::Refusal::TooLong(257)))?.as_str() == "refused 6 257",
+    )?;
     check(changed_line(rt.alloc(), Err(table::Refusal::Unknown(0)))?.as_str() == "refused 7 0")?;
-    check(changed_line(rt.alloc(), Err(table::Refusal::Clash((3, 12))))?.as_str() == "refused 8 3 12")?;
+    check(
+        changed_line(rt.alloc(), Err(table::Refusal::Clash((3, 12))))?.as_str() == "refused 8 3 12",
+    )?;
     check(changed_line(rt.alloc(), Err(table::Refusal::Full(4)))?.as_str() == "refused 9 4")?;
+    check(answer_line(rt.alloc(), Answer::Changed(Ok((1, 2))))?.as_str() == "ok 1 2")?;
+    check(answer_line(rt.alloc(), Answer::Number(7))?.as_str() == "7")?;
+    check(answer_line(rt.alloc(), Answer::Held(true))?.as_str() == "yes")?;
+    check(answer_line(rt.alloc(), Answer::Held(false))?.as_str() == "no")?;
+    check(answer_line(rt.alloc(), Answer::Fact(Some(2304)))?.as_str() == "2304")?;
+    check(answer_line(rt.alloc(), Answer::Fact(None))?.as_str() == "none")?;
     let mut cells = [0; 2];
     check(held_lines(rt.alloc(), &Table::over(&mut cells))?.as_str() == "end 0")
 }

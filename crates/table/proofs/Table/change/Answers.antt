@@ -1,21 +1,20 @@
 use mathlib.Core.Path.{_≡_, sym, ap, subst}
 use Prim.Native.Nat.{_+_, _-_, _≤_}
 use native.Mathlib.Omega.{arith}
-use denote.Ref.{name, now}
+use denote.Ref.{name}
 use Rattle.rows.specs.Rows.{RowOf, Count}
 use lib.ListN.{length, take}
 use Rattle.table.specs.Cells.{used, laid}
 use Rattle.table.specs.Facts.{AfterDelivery, OnlyIn}
 use Rattle.table.specs.Checks.{Enterable, stays}
 use Rattle.table.specs.View.{cells-of, facts-of}
-use Rattle.table.proofs.Cells.{laid-itself}
 use Rattle.table.proofs.Changes as changes
 use Rattle.table.proofs.Table.change.Needs as need
 
 pub retain-kept-requires : need.retain-kept-requires
 retain-kept-requires g c κs =
     let t = c .replace-cells .result in
-    record { fits = t .fits; laid = laid-itself (t .cells .now) (t .held) (t .fits) (t .clear) }
+    record { fits = t .fits; laid = t .layout }
 
 pub enter-all-requires : need.enter-all-requires
 enter-all-requires g c κs =
@@ -27,7 +26,7 @@ enter-all-requires g c κs =
     let kept = c .retain-kept .result in
     let after = c .retain-kept .last .cells in
     record {
-      short = c .pre .readable .short;
+      short = c .pre .short-and-known .short;
       fits = changes.room-left (t .cells .now) (t .held) (t .fits) (t .ascends) m (g .B·Book .most) law list (c .args .come) can after kept (c .retain-kept .ensures .number) (c .retain-kept .ensures .cells);
       laid = changes.laid-again (t .cells .now) (t .held) (t .fits) (t .ascends) m (g .B·Book .most) law list (c .args .come) can after kept (c .retain-kept .ensures .number) (c .retain-kept .ensures .cells);
       ascends = changes.stay-ascends (t .cells .now) (t .held) (t .fits) (t .ascends) m (g .B·Book .most) law list (c .args .come) can after kept (c .retain-kept .ensures .number) (c .retain-kept .ensures .cells);

@@ -1,14 +1,9 @@
-use mathlib.Core.Path.{_≡_, refl, sym, subst}
-use Prim.Native.Nat.{ℕ, _*_, _≤_}
-use denote.Ref.{name}
-use lib.ListN.{length}
-use Rattle.std.specs.Results.{Cases}
+use mathlib.Core.Path.{refl}
 use Rattle.std.specs.declared.result.Result.the-variants.{Ok, Err}
 use Rattle.std.proofs.shelf.Results.{err-from-errBy}
 use Rattle.table.specs.Calls.{Delivers, DeliveryAccepted}
 use Rattle.table.specs.Cells.{used}
 use Rattle.table.specs.View.{cells-of, facts-of}
-use Rattle.table.proofs.Cells.{laid-itself}
 use Rattle.table.proofs.Deliveries.{come-count, unknown-stays}
 use Rattle.table.proofs.Few.{comes-few}
 use Rattle.table.proofs.Worlds.{delivery-by-worlds, delivery-keeps-a-world}
@@ -26,7 +21,7 @@ returns-in-Break-come g c =
     let p = err-from-errBy (c .from-residual .result) (c .from-residual .ensures .1) in
     rw (p .1, p .2) (record {
       facts = refused;
-      cells = laid-itself (cells-of t) (t .held) (t .fits) (t .clear);
+      cells = t .layout;
       refusal = refl;
       few = tt;
       unknown-stay = λ x unknown h. h;
@@ -47,12 +42,12 @@ returns g c =
     let can = c .in-Continue-come .ensures tt in
     let after = c .change-gone .ensures in
     let accepted : DeliveryAccepted m size list (facts-of t) new (c .change-gone .result) come = record {
-      readable = can .readable;
+      short-and-known = can .short-and-known;
       nothing-clashes = can .nothing-clashes;
       leaves = after .facts;
       fits = after .fits;
-      gone-are = after .gone;
-      come-are = come-count m (g .B·Book .most) law list (facts-of t) (can .nothing-clashes) (t .ascends) new (after .facts) come (can .coming);
+      number-gone = after .gone;
+      number-come = come-count m (g .B·Book .most) law list (facts-of t) (can .nothing-clashes) (t .ascends) new (after .facts) come (can .coming);
     } in
     record {
       facts = accepted;

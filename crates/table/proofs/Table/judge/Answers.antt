@@ -52,7 +52,7 @@ returns-in-Break-check-list g c =
 pub returns-in-Break-check-clash : need.returns-in-Break-check-clash
 returns-in-Break-check-clash g c =
     let p = err-from-errBy (c .from-residual-in-Break-check-clash .result) (c .from-residual-in-Break-check-clash .ensures .1) in
-    rw (p .1, p .2) (inr (inl (c .in-Continue-check-list .ensures tt, c .in-Break-check-clash .ensures tt)))
+    rw (p .1, p .2) (inr (inl (c .in-Break-check-clash .ensures tt)))
 
 pub returns-then-facts-size : need.returns-then-facts-size
 returns-then-facts-size g c =
@@ -71,7 +71,7 @@ returns-else-self-come g c =
     let list = c .args .list .now in
     let p = stays m list in
     record {
-      readable = c .in-Continue-check-list .ensures tt;
+      short-and-known = c .in-Continue-check-list .ensures tt;
       nothing-clashes = c .in-Continue-check-clash .ensures tt;
       coming = subst (λ l. Count (Comes m list l) (c .coming-come .result)) (whole (t .cells .now) (t .held)) (c .coming-come .ensures);
       room = omega (arith, length-kept-by-both p (λ x. not (p x)) (λ _. refl) (take (t .held) (t .cells .now)), length-take (t .held) (t .cells .now), c .if-self-come .left, c .min-size .ensures);

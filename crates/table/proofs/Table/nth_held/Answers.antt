@@ -10,10 +10,13 @@ pub returns-then-k-self : need.returns-then-k-self
 returns-then-k-self c =
     let t = c .args .self .now in
     let n : length (take (t .held) (t .cells .now)) ≡ t .held = length-take-le (t .held) (t .cells .now) (omega (arith, t .fits)) in
-    sym (nth-past (take (t .held) (t .cells .now)) (c .args .k) (omega (arith, c .if-k-self .taken)))
+    record { number = sym (nth-past (take (t .held) (t .cells .now)) (c .args .k) (omega (arith, c .if-k-self .taken))); ascending = t .ascends }
 
 pub returns : need.returns
 returns c =
     let t = c .args .self .now in
     let n : length (take (t .held) (t .cells .now)) ≡ t .held = length-take-le (t .held) (t .cells .now) (omega (arith, t .fits)) in
-    sym (nth-getD (take (t .held) (t .cells .now)) (c .args .k) 0 (omega (arith, c .if-k-self .left)) ∙ ap Some (getD-take (t .held) (t .cells .now) (c .args .k) 0 (c .if-k-self .left)))
+    record {
+      number = sym (nth-getD (take (t .held) (t .cells .now)) (c .args .k) 0 (omega (arith, c .if-k-self .left)) ∙ ap Some (getD-take (t .held) (t .cells .now) (c .args .k) 0 (c .if-k-self .left)));
+      ascending = t .ascends;
+    }

@@ -3,7 +3,7 @@ use mathlib.Core.Path.{_≡_, refl, ap, _∙_}
 use mathlib.Core.List.{List, [], _++_}
 use Prim.Native.Nat.{ℕ, _-_}
 use native.Mathlib.Omega.{arith}
-use lib.ListN.{length, drop, set, replicate}
+use lib.ListN.{drop, set, replicate}
 use Rattle.std.proofs.shelf.Edits.{fill-more}
 use Rattle.rows.proofs.Ascents.{ascending-none}
 use Rattle.table.specs.Cells.{used, laid}

@@ -8,14 +8,13 @@ use Rattle.table.specs.Cells.{laid}
 use Rattle.table.specs.Facts.{AfterWithdrawal, OnlyIn}
 use Rattle.table.specs.Checks.{untouched}
 use Rattle.table.specs.View.{cells-of, facts-of}
-use Rattle.table.proofs.Cells.{laid-itself}
 use Rattle.table.proofs.Changes.{fewer-kept, left-kept, left-laid, left-leaves, left-gone}
 use Rattle.table.proofs.Table.release.Needs as need
 
 pub retain-kept-requires : need.retain-kept-requires
 retain-kept-requires g c κs =
     let t = c .replace-cells .result in
-    record { fits = t .fits; laid = laid-itself (t .cells .now) (t .held) (t .fits) (t .clear) }
+    record { fits = t .fits; laid = t .layout }
 
 pub ghost-self : need.ghost-self
 ghost-self g c =

@@ -1,10 +1,8 @@
 use mathlib.Core.Path.{refl}
-use Prim.Native.Nat.{ℕ}
 use Rattle.std.specs.declared.result.Result.the-variants.{Ok, Err}
 use Rattle.std.proofs.shelf.Results.{err-from-errBy}
 use Rattle.table.specs.Calls.{Withdraws}
-use Rattle.table.specs.View.{cells-of, facts-of}
-use Rattle.table.proofs.Cells.{laid-itself}
+use Rattle.table.specs.View.{facts-of}
 use Rattle.table.proofs.Changes.{unknown-left}
 use Rattle.table.proofs.Worlds.{withdrawal-by-worlds, withdrawal-keeps-a-world}
 use Rattle.table.proofs.Table.withdraw.Needs as need
@@ -20,7 +18,7 @@ returns-in-Break-check-list g c =
     let p = err-from-errBy (c .from-residual .result) (c .from-residual .ensures .1) in
     rw (p .1, p .2) (record {
       facts = refused;
-      cells = laid-itself (cells-of t) (t .held) (t .fits) (t .clear);
+      cells = t .layout;
       refusal = refl;
       unknown-stay = λ x unknown h. h;
       by-worlds = withdrawal-by-worlds m (g .B·Book .most) law list (facts-of t) (facts-of t) (Err e) refused;
@@ -36,7 +34,7 @@ returns g c =
     let list = c .args .list .now in
     let new = facts-of (c .release-gone .last .self) in
     let after = c .release-gone .ensures in
-    let accepted : Withdraws m list (facts-of t) new (Ok (c .release-gone .result, 0)) = (record { readable = c .in-Continue-check-list .ensures tt; leaves = after .facts; gone-are = after .gone }, refl) in
+    let accepted : Withdraws m list (facts-of t) new (Ok (c .release-gone .result, 0)) = (record { short-and-known = c .in-Continue-check-list .ensures tt; leaves = after .facts; number-gone = after .gone }, refl) in
     record {
       facts = accepted;
       cells = after .cells;

@@ -1,8 +1,7 @@
-use mathlib.Core.Path.{sym, _∙_}
+use mathlib.Core.Path.{_∙_}
 use native.Mathlib.Omega.{arith}
 use mathlib.Core.Bool.{not}
 use mathlib.Core.Path.{ap}
-use Rattle.std.proofs.shelf.Tests.{not-true, not-false}
 use Rattle.std.proofs.shelf.Ways.{not-from-decides}
 use Rattle.rows.proofs.Ascents.{placed-tells}
 use Rattle.table.proofs.Entries.{counting-start, counting-old, counting-new, counting-all, counting-small, ahead-on, height-falls}
@@ -39,7 +38,7 @@ pub loop-next-again : need.loop-next-again
 loop-next-again g c =
     let m = g .B·Book .meaning (c .args .book .now) in
     let law = g .B·Book·met .lawful (c .args .book .now) in
-    let tells = placed-tells (c .args .row .now) (c .in-Some .code) (c .find .result) (c .find .ensures (c .pre .ascends)) in
+    let tells = placed-tells (c .args .row .now) (c .in-Some .code) (c .find .result) (c .find .ensures .placed (c .pre .ascends)) in
     let was = c .loop-next .descent in
     let now′ = c .advance-next .last .self in
     let test = c .is-err .ensures .test in

@@ -1,7 +1,6 @@
-use mathlib.Core.Path.{_≡_, refl, sym, _∙_}
+use mathlib.Core.Path.{refl}
 use native.Mathlib.Omega.{arith}
-use Prim.Native.Nat.{_+_}
-use lib.ListN.{length, take}
+use lib.ListN.{take}
 use Rattle.table.proofs.Entries.{ahead-on, height-falls}
 use Rattle.table.proofs.Merging.{merging-start, merging-more, merging-all, front-ascends, below-top, room-for-next}
 use Rattle.table.proofs.entering.enter.Needs as need

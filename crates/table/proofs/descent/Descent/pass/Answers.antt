@@ -1,10 +1,9 @@
-use mathlib.Core.Path.{_≡_, sym, ap, subst, _∙_}
-use Prim.Native.Nat.{ℕ, _+_, _-_, _≤_, _<_}
+use mathlib.Core.Path.{_≡_, _∙_}
+use Prim.Native.Nat.{ℕ, _+_, _-_, _<_}
 use native.Mathlib.Omega.{arith}
 use borrow.Author.Count.{below-more}
-use lib.ListN.{length, getD}
+use lib.ListN.{getD}
 use Rattle.std.proofs.shelf.Lists.{length-set}
-use Rattle.std.proofs.shelf.Tests.{eqb-true, eqb-false}
 use Rattle.table.specs.Descent.{CutAt}
 use Rattle.table.proofs.Descents.{cut-passed, cut-stays, written-more, written-elsewhere}
 use Rattle.table.proofs.descent.Descent.pass.Needs as need

@@ -1,4 +1,4 @@
-use Rattle.table.proofs.Descents.{largest-left, largest-of-all}
+use Rattle.table.proofs.Descents.{largest-of-all}
 use Rattle.table.proofs.descent.Descent.start.Needs as need
 
 pub returns : need.returns
