@@ -14,6 +14,14 @@ pub fn find(row: &[u64], c: u64) -> Result<usize, usize>
     ensures placed { λ r. ⌜ (Ascending (now (row .entry)) → Placed (now (row .entry)) c r) ⌝ }
     ensures within { λ r. ⌜ Cases r (λ i. (i < length (now (row .entry))) × (getD (now (row .entry)) i 0 ≡ c)) (λ i. i ≤ length (now (row .entry))) ⌝ }
 {
+    search(row, c)
+}
+
+// The library's binary search.
+fn search(row: &[u64], c: u64) -> Result<usize, usize>
+    ensures placed { λ r. ⌜ (Ascending (now (row .entry)) → Placed (now (row .entry)) c r) ⌝ }
+    ensures within { λ r. ⌜ Cases r (λ i. (i < length (now (row .entry))) × (getD (now (row .entry)) i 0 ≡ c)) (λ i. i ≤ length (now (row .entry))) ⌝ }
+{
     row.binary_search(&c)
 }
 
@@ -30,8 +38,17 @@ pub trait Test {
 pub fn count<T: Test>(test: &T, row: &[u64]) -> usize
     ensures { λ r. ⌜ r ≡ length (kept-by (T·Test .test (now (test .entry))) (now (row .entry))) ⌝ }
 {
+    count_before(test, row, row.len())
+}
+
+// How many of the first `end` pass the test.
+fn count_before<T: Test>(test: &T, row: &[u64], end: usize) -> usize
+    requires { ⌜ end ≤ length (now row) ⌝ }
+    ensures part { λ r. ⌜ r ≡ length (kept-by (T·Test .test (now (test .entry))) (take end (now (row .entry)))) ⌝ }
+    ensures whole { λ r. ⌜ (end ≡ length (now (row .entry)) → r ≡ length (kept-by (T·Test .test (now (test .entry))) (now (row .entry)))) ⌝ }
+{
     let mut passing = 0;
-    for i in 0..row.len() {
+    for i in 0..end {
         if test.passes(row[i]) {
             passing += 1;
         }
@@ -51,6 +68,7 @@ pub fn keep<T: Test>(test: &T, row: &mut [u64]) -> usize
 
 // Moves what passes to the front, in its order.
 fn gather<T: Test>(test: &T, row: &mut [u64]) -> usize
+    ensures within { λ r. ⌜ r ≤ length (now (row .entry)) ⌝ }
     ensures number { λ r. ⌜ r ≡ length (kept-by (T·Test .test (now (test .entry))) (now (row .entry))) ⌝ }
     ensures front { λ r. ⌜ take r (now (row .exit)) ≡ kept-by (T·Test .test (now (test .entry))) (now (row .entry)) ⌝ }
 {

@@ -6,6 +6,8 @@ use mathlib.Core.Logic.{_⊎_}
 use Prim.Native.Nat.{ℕ, _+_, _-_, _≤_}
 use native.Mathlib.Omega.{arith}
 use lib.ListN.{length, take}
+use Rattle.std.specs.declared.result.Result.{Result}
+use Rattle.std.specs.declared.result.Result.the-variants.{Ok, Err}
 use Rattle.std.specs.shelf.Lists.{Has, kept-by}
 use Rattle.std.proofs.shelf.Filters.{length-kept-by-both}
 use Rattle.std.proofs.shelf.Lists.{length-take-le}
@@ -17,10 +19,12 @@ use Rattle.rows.proofs.Tests.{false-from-not-true}
 use Rattle.book.specs.Meaning.{Meaning, Lawful, FollowsFromOne}
 use Rattle.table.specs.Cells.{used, laid}
 use Rattle.table.specs.Facts.{AfterDelivery, AfterWithdrawal, OnlyIn, UnknownStay}
+use Rattle.table.specs.Calls.{DeliveryAccepted, Withdraws}
 use Rattle.table.specs.Checks.{stays, untouched, Enterable}
+use Rattle.table.specs.declared.refusals.Refusal.{Refusal}
 use Rattle.table.specs.Descent.{Comes}
 use Rattle.table.proofs.Cells.{Kept, kept-at, facts-at, laid-laid, used-laid}
-use Rattle.table.proofs.Deliveries.{staying-ascends, comes-to-staying, leaves-both, gone-count}
+use Rattle.table.proofs.Deliveries.{staying-ascends, comes-to-staying, leaves-both, come-count, gone-count}
 use Rattle.table.proofs.Tests.{untouched-tells}
 
 -- those that pass are no more than were held
@@ -61,10 +65,10 @@ module _ (cells : List ℕ) (held : ℕ) (fits : held ≤ used cells) (up : Asce
     -- what follows is entered
     module _ (cells″ : List ℕ) (long : length cells″ ≡ length cells′) (facts : RowOf (λ c. FollowsFromOne m list c ⊎ Has (take kept cells′) c) (take (kept + come) cells″))
         (is′ : cells″ ≡ laid (take (kept + come) cells″) cells′) where
-      pub new-long : length (take (kept + come) cells″) ≡ kept + come
+      new-long : length (take (kept + come) cells″) ≡ kept + come
       new-long = length-take-le (kept + come) cells″ (omega (arith, room-left))
 
-      pub new-fits : length (take (kept + come) cells″) ≤ used cells
+      new-fits : length (take (kept + come) cells″) ≤ used cells
       new-fits = omega (arith, new-long, room-left, same-used)
 
       pub new-laid : cells″ ≡ laid (take (kept + come) cells″) cells
@@ -73,13 +77,23 @@ module _ (cells : List ℕ) (held : ℕ) (fits : held ≤ used cells) (up : Asce
       pub new-kept : Kept cells″ (kept + come)
       new-kept = kept-at (take (kept + come) cells″) cells cells″ (kept + come) new-laid (sym new-long) new-fits (facts .ascends)
 
-      pub new-leaves : RowOf (AfterDelivery m list (take held cells)) (take (kept + come) cells″)
+      new-leaves : RowOf (AfterDelivery m list (take held cells)) (take (kept + come) cells″)
       new-leaves = leaves-both m most law list (take held cells) (can .nothing-clashes) up (take (kept + come) cells″)
           (subst (λ l. RowOf (λ c. FollowsFromOne m list c ⊎ Has l c) (take (kept + come) cells″)) facts-stay facts)
 
-      pub new-gone : Count (OnlyIn (take held cells) (take (kept + come) cells″)) (held - kept)
+      new-gone : Count (OnlyIn (take held cells) (take (kept + come) cells″)) (held - kept)
       new-gone = gone-count m most law list (take held cells) (can .nothing-clashes) up (take (kept + come) cells″) new-leaves (held - kept)
           (omega (arith, number, held-long, fewer-kept (stays m list) cells held fits))
+
+      pub new-accepted : DeliveryAccepted m (used cells) list (take held cells) (take (kept + come) cells″) (held - kept) come
+      new-accepted = record {
+        short-and-known = can .short-and-known;
+        nothing-clashes = can .nothing-clashes;
+        fits = new-fits;
+        leaves = new-leaves;
+        number-gone = new-gone;
+        number-come = come-count m most law list (take held cells) (can .nothing-clashes) up (take (kept + come) cells″) new-leaves come (can .coming);
+      }
 
   -- a withdrawal leaves what leads to none of the named facts
   module _ (m : Meaning) (list cells′ : List ℕ) (kept : ℕ) (number : kept ≡ length (kept-by (untouched m list) (take held cells))) (is : cells′ ≡ laid (kept-by (untouched m list) (take held cells)) cells) where
@@ -127,5 +141,6 @@ module _ (cells : List ℕ) (held : ℕ) (fits : held ≤ used cells) (up : Asce
         )
 
 -- from a code that the book does not know nothing follows
-pub unknown-left : (m : Meaning) (most : ℕ) (law : Lawful m most) (list old new : List ℕ) → RowOf (AfterWithdrawal m list old) new → UnknownStay m old new
-unknown-left m most law list old new leaves c unknown h = leaves .members c .1 (h, λ d k f. has-none (subst (λ l. Has l d) (law .unknown-has-no-consequences c unknown) f))
+pub unknown-stay : (m : Meaning) (most : ℕ) (law : Lawful m most) (list old new : List ℕ) (r : Result (ℕ × ℕ) Refusal) → Withdraws m list old new r → UnknownStay m old new
+unknown-stay m most law list old new (Ok counts) w c unknown h = w .0 .leaves .members c .1 (h, λ d k f. has-none (subst (λ l. Has l d) (law .unknown-has-no-consequences c unknown) f))
+unknown-stay m most law list old new (Err e) w c unknown h = subst (λ l. Has l c) (sym (w .1)) h

@@ -1,11 +1,14 @@
 -- The facts that a delivery leaves: those of the earlier row that stay, and those that come.
-use mathlib.Core.Path.{_≡_, refl, ap}
+use mathlib.Core.Path.{_≡_, refl, sym, ap, subst, _∙_}
 use mathlib.Core.List.{List, [], _∷_}
 use mathlib.Core.Bool.{Bool, not}
 use mathlib.Core.Logic.{_⊎_, inl, inr, _↔_}
-use Prim.Native.Nat.{ℕ, _+_, _-_, _<_}
+use Prim.Native.Nat.{ℕ, _+_, _*_, _≤_}
 use native.Mathlib.Omega.{arith}
 use lib.ListN.{length}
+use Rattle.std.specs.Results.{Cases}
+use Rattle.std.specs.declared.result.Result.{Result}
+use Rattle.std.specs.declared.result.Result.the-variants.{Ok, Err}
 use Rattle.std.specs.shelf.Lists.{Has, kept-by}
 use Rattle.std.proofs.shelf.Filters.{length-kept-by-both}
 use Rattle.std.proofs.shelf.Tests.{both-ways, not-true, not-from-false}
@@ -17,15 +20,32 @@ use Rattle.rows.proofs.Tests.{false-from-not-true}
 use Rattle.book.specs.Meaning.{Meaning, Lawful, FollowsFromOne, NothingClashes}
 use Rattle.book.proofs.Peace.{causes-clash}
 use Rattle.table.specs.Facts.{ClashesWithNone, AfterDelivery, OnlyIn, UnknownStay, ShortAndKnown}
-use Rattle.table.specs.Refusals.{DeliveryRefused}
-use Rattle.table.specs.declared.refusals.Refusal.the-variants.{Full}
-use Rattle.table.specs.Checks.{stays}
+use Rattle.table.specs.Refusals.{number-of, returned-by, DeliveryRefused}
+use Rattle.table.specs.Calls.{Delivers}
+use Rattle.table.specs.declared.refusals.Refusal.{Refusal}
+use Rattle.table.specs.Checks.{stays, TooMany}
 use Rattle.table.specs.Descent.{Comes}
+use Rattle.table.proofs.Few.{follow-few}
 use Rattle.table.proofs.Tests.{stays-tells, cases-has}
 
--- a code that the book does not know clashes with nothing
-pub unknown-stays : (m : Meaning) (most : ℕ) (law : Lawful m most) (list old new : List ℕ) → RowOf (AfterDelivery m list old) new → UnknownStay m old new
-unknown-stays m most law list old new leaves c unknown h = leaves .members c .1 (inr (h, λ d k. false-from-not-true (m .clash d c) (λ e. both-ways (m .known c) unknown (law .only-known-clash d c e .1))))
+module _ (m : Meaning) (most : ℕ) (law : Lawful m most) (size : ℕ) (list old new : List ℕ) where
+  -- a code that the book does not know clashes with nothing
+  pub unknown-stay : (r : Result (ℕ × ℕ) Refusal) → Delivers m size list old new r → UnknownStay m old new
+  unknown-stay (Ok counts) d c unknown h = d .leaves .members c .1 (inr (h, λ e k. false-from-not-true (m .clash e c) (λ t. both-ways (m .known c) unknown (law .only-known-clash e c t .1))))
+  unknown-stay (Err e) d c unknown h = subst (λ l. Has l c) (sym (d .1)) h
+
+  -- at most `most` facts come for each delivered one
+  pub few-come : (r : Result (ℕ × ℕ) Refusal) → Delivers m size list old new r → Cases r (λ counts. counts .1 ≤ length list * most) (λ _. Unit {0})
+  few-come (Ok counts) d =
+      let come = d .number-come in
+      omega (
+        arith,
+        come .2,
+        follow-few m most law list (come .0) (come .1 .ascends) (λ c h.
+            let only = come .1 .members c .0 h in
+            elim (d .leaves .members c .0 (only .0)) [ inl f ↦ f | inr k ↦ absurd (only .1 (k .0)) ]),
+      )
+  few-come (Err e) d = tt
 
 module _ (m : Meaning) (most : ℕ) (law : Lawful m most) (list old : List ℕ) (peace : NothingClashes m list) (up : Ascending old) where
   -- what follows from a delivered fact clashes with none of them
@@ -90,11 +110,10 @@ module _ (m : Meaning) (most : ℕ) (law : Lawful m most) (list old : List ℕ) 
       )
 
   -- more facts than cells
-  pub refused-full : (size kept come : ℕ) → ShortAndKnown m list → Count (Comes m list old) come → kept ≡ length staying → size < kept + come → DeliveryRefused m size list old (Full (kept + come))
-  refused-full size kept come short-and-known count is more =
+  pub refused-full : (size come : ℕ) (e : Refusal) → ShortAndKnown m list → Count (Comes m list old) come → TooMany (length staying + come) size e → DeliveryRefused m size list old e
+  refused-full size come e short-and-known count more =
       let new = leaves-some come count in
-      let long : kept + come ≡ length (new .0) = omega (arith, new .2) in
-      inr (inr (short-and-known, peace, (new .0, new .1, omega arith, (refl, ap (λ n. n ∷ []) long))))
+      inr (inr (short-and-known, peace, (new .0, new .1, omega (arith, more .0, new .2), (ap number-of (more .1), ap returned-by (more .1) ∙ ap (λ n. n ∷ []) (sym (new .2))))))
 
   -- the counts of an accepted delivery
   module _ (new : List ℕ) (leaves : RowOf (AfterDelivery m list old) new) where

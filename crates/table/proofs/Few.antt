@@ -34,9 +34,3 @@ module _ (m : Meaning) (most : ℕ) (law : Lawful m most) where
   -- which is a small number for a list that is short
   pub follow-small : (list xs : List ℕ) → length list ≤ 256 → Ascending xs → ((c : ℕ) → Has xs c → FollowsFromOne m list c) → length xs ≤ 16777216
   follow-small list xs short up each = omega (arith, follow-few list xs up each, mul-le-mul-right most short, law .most-is-small)
-
-  pub comes-few : (list row : List ℕ) (n : ℕ) → Count (Comes m list row) n → n ≤ length list * most
-  comes-few list row n count = omega (arith, count .2, follow-few list (count .0) (count .1 .ascends) (λ c h. count .1 .members c .0 h .0))
-
-  pub comes-small : (list row : List ℕ) (n : ℕ) → length list ≤ 256 → Count (Comes m list row) n → n ≤ 16777216
-  comes-small list row n short count = omega (arith, count .2, follow-small list (count .0) short (count .1 .ascends) (λ c h. count .1 .members c .0 h .0))

@@ -15,10 +15,10 @@ use Rattle.std.proofs.shelf.Elements.{has-getD}
 use Rattle.std.proofs.shelf.Tests.{both-ways, cases-bool, not-true, not-false, not-from-false, or-cases, or-left, or-right, eqb-true, eq-eqb}
 use Rattle.rows.proofs.Members.{each-member, has-none, has-head, has-tail, has-cases}
 use Rattle.rows.proofs.Tests.{false-from-not-true}
-use Rattle.book.specs.Meaning.{Meaning}
+use Rattle.book.specs.Meaning.{Meaning, Follows}
 use Rattle.book.specs.Lists.{FirstAgainst}
 use Rattle.table.specs.Facts.{ClashesWithNone, NoneFollows}
-use Rattle.table.specs.Checks.{any, stays, untouched}
+use Rattle.table.specs.Checks.{any, stays, untouched, FirstFollowing}
 
 -- some number of the list passes
 any-some : (p : ℕ → Bool) (xs : List ℕ) → any p xs ≡ true → (d : ℕ) × Has xs d × (p d ≡ true)
@@ -65,6 +65,14 @@ module _ (m : Meaning) (list : List ℕ) (c : ℕ) where
   against-tells (Some i) b first e = (
     (λ h. absurd (both-ways b (not-true b (sym e)) h)),
     λ none. absurd (both-ways (m .clash (getD list i 0) c) (none (getD list i 0) (has-getD list i 0 (first .0))) (first .1)),
+  )
+
+  -- the first that follows from c is none exactly when none does
+  pub first-following-tells : (r : Option ℕ) (b : Bool) → FirstFollowing m list c r → isSome r ≡ not b → Decides b (NoneFollows m list c)
+  first-following-tells None b first e = ((λ _. each-member (λ d. Follows m c d → ⊥) list first), λ _. not-false b (sym e))
+  first-following-tells (Some i) b first e = (
+    (λ h. absurd (both-ways b (not-true b (sym e)) h)),
+    λ none. absurd (none (getD list i 0) (has-getD list i 0 (first .0)) (first .1)),
   )
 
 -- a list has a number, or does not

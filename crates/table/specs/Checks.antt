@@ -9,9 +9,13 @@ use lib.Dec.{eqb}
 use lib.ListN.{length, getD, take, drop}
 use Rattle.std.specs.shelf.Lists.{Has, kept-by}
 use Rattle.rows.specs.Rows.{Count}
-use Rattle.book.specs.Meaning.{Meaning, NothingClashes}
+use Rattle.std.specs.declared.option.Option.{Option}
+use Rattle.std.specs.declared.option.Option.the-variants.{Some, None}
+use Rattle.book.specs.Meaning.{Meaning, Follows, NothingClashes}
 use Rattle.table.specs.Facts.{ShortAndKnown}
 use Rattle.table.specs.Descent.{Comes}
+use Rattle.table.specs.declared.refusals.Refusal.{Refusal}
+use Rattle.table.specs.declared.refusals.Refusal.the-variants.{Full}
 
 -- whether some number of the list passes the test
 abbrev pub any : (ℕ → Bool) → List ℕ → Bool
@@ -25,6 +29,15 @@ stays m list c = not (any (λ d. m .clash d c) list)
 -- whether none of the list follows from c
 abbrev pub untouched : Meaning → List ℕ → ℕ → Bool
 untouched m list c = not (any (λ d. any (eqb d) (m .consequences c)) list)
+
+-- the place of the first of the list that follows from c; none where none does
+abbrev pub FirstFollowing : Meaning → List ℕ → ℕ → Option ℕ → Type 0
+FirstFollowing m list c None = (k : ℕ) → k < length list → Follows m c (getD list k 0) → ⊥
+FirstFollowing m list c (Some i) = (i < length list) × Follows m c (getD list i 0)
+
+-- the refusal of n facts in a table of fewer cells
+abbrev pub TooMany : ℕ → ℕ → Refusal → Type 0
+TooMany n size e = (size < n) × (e ≡ Full n)
 
 -- a delivery that can be entered: `come` facts come, and there is room
 pub record Enterable (m : Meaning) (list old : List ℕ) (size come : ℕ) : Type 0 where

@@ -1,15 +1,15 @@
 // Deliveries.
 ghost use mathlib.Core.Path.{_≡_};
 ghost use denote.Ref.{now, name};
-ghost use Prim.Native.Nat.{_*_, _≤_};
+ghost use Prim.Native.Nat.{_+_, _*_, _≤_};
 ghost use lib.ListN.{length};
 ghost use Rattle.std.specs.Results.{Cases};
-ghost use Rattle.rows.specs.Rows.{RowOf, Count};
+ghost use Rattle.std.specs.shelf.Lists.{kept-by};
 ghost use Rattle.table.specs.Cells.{used, laid};
-ghost use Rattle.table.specs.Facts.{AfterDelivery, OnlyIn, UnknownStay};
+ghost use Rattle.table.specs.Facts.{UnknownStay};
 ghost use Rattle.table.specs.Refusals.{DeliveryRefused};
-ghost use Rattle.table.specs.Checks.{stays, Enterable};
-ghost use Rattle.table.specs.Calls.{Delivers};
+ghost use Rattle.table.specs.Checks.{stays, TooMany, Enterable};
+ghost use Rattle.table.specs.Calls.{DeliveryAccepted, Delivers};
 ghost use Rattle.table.specs.Worlds.{DeliveryByWorlds, SomeWorldHoldsExactly};
 ghost use Rattle.table.specs.View.{cells-of, facts-of};
 use crate::CELL_LIMIT;
@@ -37,8 +37,15 @@ impl<'a, 'b, B: Book> Test for Compatible<'a, 'b, B> as CompatibleTest {
     ghost test = { λ t. stays (B·Book .meaning (now (t .book))) (now (t .list)) };
 
     fn passes(&self, c: u64) -> bool {
-        first_against(self.book, self.list, c).is_none()
+        clashes_with_none(self.book, self.list, c)
     }
+}
+
+// Whether the code clashes with none of the list.
+fn clashes_with_none<B: Book>(book: &B, list: &[u64], c: u64) -> bool
+    ensures { λ r. ⌜ r ≡ stays (meaning (now (book .entry))) (now (list .entry)) c ⌝ }
+{
+    first_against(book, list, c).is_none()
 }
 
 impl<'a> Table<'a> {
@@ -54,6 +61,16 @@ impl<'a> Table<'a> {
         ensures some_world { λ _. ⌜ (SomeWorldHoldsExactly (meaning (now (book .entry))) (facts-of (now (self .entry))) → SomeWorldHoldsExactly (meaning (now (book .entry))) (facts-of (now (self .exit)))) ⌝ }
         ensures named { λ _. ⌜ name (now (self .exit) .cells) ≡ name (now (self .entry) .cells) ⌝ }
     {
+        self.take_in(book, list)
+    }
+
+    // A delivery, without what the laws and the worlds say of it.
+    fn take_in<B: Book>(&mut self, book: &B, list: &[u64]) -> Result<(usize, usize), Refusal>
+        ensures facts { λ r. ⌜ Delivers (meaning (now (book .entry))) (used (cells-of (now (self .entry)))) (now (list .entry)) (facts-of (now (self .entry))) (facts-of (now (self .exit))) r ⌝ }
+        ensures cells { λ _. ⌜ cells-of (now (self .exit)) ≡ laid (facts-of (now (self .exit))) (cells-of (now (self .entry))) ⌝ }
+        ensures refusal { λ r. ⌜ Cases r (λ _. Unit {0}) (λ _. now (self .exit) ≡ now (self .entry)) ⌝ }
+        ensures named { λ _. ⌜ name (now (self .exit) .cells) ≡ name (now (self .entry) .cells) ⌝ }
+    {
         let come = self.judge(book, list)?;
         let gone = self.change(book, list, come);
         Ok((gone, come))
@@ -65,24 +82,33 @@ impl<'a> Table<'a> {
     {
         check_list(book, list)?;
         check_clash(book, list)?;
-        let come = coming(book, list, &self.cells[0..self.held]);
-        let size = self.cells.len().min(CELL_LIMIT);
-        if self.held + come > size {
-            let facts = count(&Compatible { book, list }, &self.cells[0..self.held]) + come;
-            if facts > size {
-                return Err(Refusal::Full(facts));
-            }
-        }
+        let come = coming(book, list, self.facts());
+        self.check_room(book, list, come)?;
         Ok(come)
+    }
+
+    // The facts that stay, with `come` more, are no more than the cells in use. Where they would be so even if all
+    // stayed, the book is not asked who goes.
+    fn check_room<B: Book>(&self, book: &B, list: &[u64], come: usize) -> Result<(), Refusal>
+        requires { ⌜ come ≤ 16777216 ⌝ }
+        ensures { λ r. ⌜ Cases r (λ _. length (kept-by (stays (meaning (now (book .entry))) (now (list .entry))) (facts-of (now (self .entry)))) + come ≤ used (cells-of (now (self .entry)))) (λ e. TooMany (length (kept-by (stays (meaning (now (book .entry))) (now (list .entry))) (facts-of (now (self .entry)))) + come) (used (cells-of (now (self .entry)))) e) ⌝ }
+    {
+        let size = self.cells.len().min(CELL_LIMIT);
+        if self.held + come <= size {
+            return Ok(());
+        }
+        let facts = count(&Compatible { book, list }, self.facts()) + come;
+        if facts > size {
+            return Err(Refusal::Full(facts));
+        }
+        Ok(())
     }
 
     // Takes out what clashes and enters what follows, of which `come` codes come. Answers how many facts are gone.
     fn change<B: Book>(&mut self, book: &B, list: &[u64], come: usize) -> usize
         requires { ⌜ Enterable (meaning (now book)) (now list) (facts-of (now self)) (used (cells-of (now self))) come ⌝ }
-        ensures facts { λ _. ⌜ RowOf (AfterDelivery (meaning (now (book .entry))) (now (list .entry)) (facts-of (now (self .entry)))) (facts-of (now (self .exit))) ⌝ }
+        ensures facts { λ r. ⌜ DeliveryAccepted (meaning (now (book .entry))) (used (cells-of (now (self .entry)))) (now (list .entry)) (facts-of (now (self .entry))) (facts-of (now (self .exit))) r come ⌝ }
         ensures cells { λ _. ⌜ cells-of (now (self .exit)) ≡ laid (facts-of (now (self .exit))) (cells-of (now (self .entry))) ⌝ }
-        ensures fits { λ _. ⌜ length (facts-of (now (self .exit))) ≤ used (cells-of (now (self .entry))) ⌝ }
-        ensures gone { λ r. ⌜ Count (OnlyIn (facts-of (now (self .entry))) (facts-of (now (self .exit)))) r ⌝ }
         ensures named { λ _. ⌜ name (now (self .exit) .cells) ≡ name (now (self .entry) .cells) ⌝ }
     {
         let Table { cells, held } = mem::replace(

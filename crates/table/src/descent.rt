@@ -65,7 +65,7 @@ impl Descent {
         largest
     }
 
-    // CarriedOut `code` behind, up to which all are still to come.
+    // Leaves `code` behind, up to which all are still to come.
     fn pass<B: Book>(&mut self, book: &B, list: &[u64], code: u64)
         requires short { ⌜ length (now list) ≤ 256 ⌝ }
         requires at { ⌜ DescendsAt (meaning (now book)) (now list) (code + 1) (now self .left) (now self .heads) ⌝ }

@@ -15,7 +15,8 @@ use rows::find;
 pub(crate) fn coming<B: Book>(book: &B, list: &[u64], row: &[u64]) -> usize
     requires short { ⌜ length (now list) ≤ 256 ⌝ }
     requires ascends { ⌜ Ascending (now row) ⌝ }
-    ensures { λ r. ⌜ Count (Comes (meaning (now (book .entry))) (now (list .entry)) (now (row .entry))) r ⌝ }
+    ensures number { λ r. ⌜ Count (Comes (meaning (now (book .entry))) (now (list .entry)) (now (row .entry))) r ⌝ }
+    ensures small { λ r. ⌜ r ≤ 16777216 ⌝ }
 {
     let (mut descent, mut next) = Descent::start(book, list);
     let mut come = 0;

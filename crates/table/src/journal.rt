@@ -64,6 +64,19 @@ pub fn replay<'a, B: Book>(
     ensures replayed { λ r. ⌜ Replayed (meaning (now (book .entry))) (now (cells .entry)) (cells-of r) (facts-of r) (now (calls .entry)) (now (answers .entry)) (now (answers .exit)) ⌝ }
     ensures named { λ r. ⌜ name (r .cells) ≡ name (cells .entry) ⌝ }
 {
+    replay_all(book, cells, calls, answers)
+}
+
+// The making, and then call after call.
+fn replay_all<'a, B: Book>(
+    book: &B,
+    cells: &'a mut [u64],
+    calls: &[Call<'_>],
+    answers: &mut [Option<Answer>],
+) -> Table<'a>
+    ensures replayed { λ r. ⌜ Replayed (meaning (now (book .entry))) (now (cells .entry)) (cells-of r) (facts-of r) (now (calls .entry)) (now (answers .entry)) (now (answers .exit)) ⌝ }
+    ensures named { λ r. ⌜ name (r .cells) ≡ name (cells .entry) ⌝ }
+{
     let mut table = Table::over(cells);
     for i in 0..calls.len() {
         let answer = table.carry_out(book, calls[i]);

@@ -2,9 +2,10 @@
 ghost use mathlib.Core.Path.{_≡_};
 ghost use lib.ListN.{length};
 ghost use Rattle.std.specs.Orderings.{Decides};
+ghost use Rattle.std.specs.Results.{isOk};
 ghost use Rattle.std.specs.shelf.Lists.{Has};
 ghost use Rattle.std.specs.shelf.Maps.{nth};
-ghost use Rattle.rows.specs.Rows.{Ascending};
+ghost use Rattle.rows.specs.Rows.{Ascending, Placed};
 ghost use Rattle.table.specs.View.{facts-of};
 use crate::Table;
 use rows::find;
@@ -21,7 +22,7 @@ impl<'a> Table<'a> {
     pub fn is_held(&self, code: u64) -> bool
         ensures { λ r. ⌜ Decides r (Has (facts-of (now (self .entry))) code) ⌝ }
     {
-        find(&self.cells[0..self.held], code).is_ok()
+        self.find_held(code).is_ok()
     }
 
     // Number `k`, from 0, of the facts held in ascending order.
@@ -29,9 +30,32 @@ impl<'a> Table<'a> {
         ensures number { λ r. ⌜ r ≡ nth (facts-of (now (self .entry))) k ⌝ }
         ensures ascending { λ _. ⌜ Ascending (facts-of (now (self .entry))) ⌝ }
     {
-        if k >= self.held {
-            return None;
-        }
-        Some(self.cells[k])
+        nth_in(self.facts(), k)
     }
+
+    // The facts held, in ascending order.
+    pub(crate) fn facts(&self) -> &[u64]
+        ensures held { λ r. ⌜ now r ≡ facts-of (now (self .entry)) ⌝ }
+        ensures ascending { λ r. ⌜ Ascending (now r) ⌝ }
+    {
+        &self.cells[0..self.held]
+    }
+
+    // The place of the code among the facts held, or the place where it belongs.
+    fn find_held(&self, code: u64) -> Result<usize, usize>
+        ensures place { λ r. ⌜ Placed (facts-of (now (self .entry))) code r ⌝ }
+        ensures held { λ r. ⌜ Decides (isOk r) (Has (facts-of (now (self .entry))) code) ⌝ }
+    {
+        find(self.facts(), code)
+    }
+}
+
+// Number `k` of the row, from 0.
+fn nth_in(row: &[u64], k: usize) -> Option<u64>
+    ensures { λ r. ⌜ r ≡ nth (now (row .entry)) k ⌝ }
+{
+    if k >= row.len() {
+        return None;
+    }
+    Some(row[k])
 }

@@ -22,6 +22,7 @@ returns g c =
     let inv = c .loop-i .inv in
     let front = keeping-all inv (omega arith) in
     record {
+      within = omega (arith, inv .behind, inv .within);
       number = sym (length-take-le (c .loop-i .passing) (c .loop-i .row) (omega (arith, inv .behind, inv .within, inv .long))) ∙ ap length front;
       front = front;
     }

@@ -1,11 +1,10 @@
 use mathlib.Core.Path.{_≡_, sym, ap, subst}
-use Prim.Native.Nat.{_+_, _-_, _≤_}
+use Prim.Native.Nat.{_+_, _-_}
 use native.Mathlib.Omega.{arith}
 use denote.Ref.{name}
-use Rattle.rows.specs.Rows.{RowOf, Count}
-use lib.ListN.{length, take}
+use lib.ListN.{take}
 use Rattle.table.specs.Cells.{used, laid}
-use Rattle.table.specs.Facts.{AfterDelivery, OnlyIn}
+use Rattle.table.specs.Calls.{DeliveryAccepted}
 use Rattle.table.specs.Checks.{Enterable, stays}
 use Rattle.table.specs.View.{cells-of, facts-of}
 use Rattle.table.proofs.Changes as changes
@@ -61,13 +60,11 @@ returns g c =
     let last = c .enter-all .last .cells in
     let new = take (kept + c .args .come) last in
     record {
-      facts = subst (λ s. RowOf (AfterDelivery m list (facts-of s)) new) e (changes.new-leaves (t .cells .now) (t .held) (t .fits) (t .ascends) m (g .B·Book .most) law list (c .args .come) can after kept (c .retain-kept .ensures .number) (c .retain-kept .ensures .cells)
+      facts = subst (λ s. DeliveryAccepted m (used (cells-of s)) list (facts-of s) new (t .held - kept) (c .args .come)) e
+          (changes.new-accepted (t .cells .now) (t .held) (t .fits) (t .ascends) m (g .B·Book .most) law list (c .args .come) can after kept (c .retain-kept .ensures .number) (c .retain-kept .ensures .cells)
           last (c .enter-all .kept .cells) (c .enter-all .ensures .facts) (c .enter-all .ensures .cells));
-      cells = subst (λ s. last ≡ laid new (cells-of s)) e (changes.new-laid (t .cells .now) (t .held) (t .fits) (t .ascends) m (g .B·Book .most) law list (c .args .come) can after kept (c .retain-kept .ensures .number) (c .retain-kept .ensures .cells)
-          last (c .enter-all .kept .cells) (c .enter-all .ensures .facts) (c .enter-all .ensures .cells));
-      fits = subst (λ s. length new ≤ used (cells-of s)) e (changes.new-fits (t .cells .now) (t .held) (t .fits) (t .ascends) m (g .B·Book .most) law list (c .args .come) can after kept (c .retain-kept .ensures .number) (c .retain-kept .ensures .cells)
-          last (c .enter-all .kept .cells) (c .enter-all .ensures .facts) (c .enter-all .ensures .cells));
-      gone = subst (λ s. Count (OnlyIn (facts-of s) new) (t .held - kept)) e (changes.new-gone (t .cells .now) (t .held) (t .fits) (t .ascends) m (g .B·Book .most) law list (c .args .come) can after kept (c .retain-kept .ensures .number) (c .retain-kept .ensures .cells)
+      cells = subst (λ s. last ≡ laid new (cells-of s)) e
+          (changes.new-laid (t .cells .now) (t .held) (t .fits) (t .ascends) m (g .B·Book .most) law list (c .args .come) can after kept (c .retain-kept .ensures .number) (c .retain-kept .ensures .cells)
           last (c .enter-all .kept .cells) (c .enter-all .ensures .facts) (c .enter-all .ensures .cells));
       named = ap (λ s. name (s .cells)) e;
     }

@@ -51,5 +51,10 @@ loop-next-again g c =
 
 pub returns : need.returns
 returns g c =
-    counting-all (g .B·Book .meaning (c .args .book .now)) (g .B·Book .most) (g .B·Book·met .lawful (c .args .book .now)) (c .args .list .now) (c .args .row .now)
-    (c .loop-next .descent .left) (c .loop-next .descent .heads) (c .loop-next .next) (c .loop-next .come) (c .in-rest .is) (c .loop-next .inv)
+    let m = g .B·Book .meaning (c .args .book .now) in
+    let law = g .B·Book·met .lawful (c .args .book .now) in
+    let here = c .loop-next .descent in
+    record {
+      number = counting-all m (g .B·Book .most) law (c .args .list .now) (c .args .row .now) (here .left) (here .heads) (c .loop-next .next) (c .loop-next .come) (c .in-rest .is) (c .loop-next .inv);
+      small = counting-small m (g .B·Book .most) law (c .args .list .now) (c .args .row .now) (here .left) (here .heads) (c .loop-next .next) (c .loop-next .come) (c .pre .short) (c .loop-next .inv);
+    }
