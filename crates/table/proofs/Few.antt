@@ -8,11 +8,10 @@ use lib.ListN.{length}
 use Rattle.std.specs.shelf.Lists.{Has, joined}
 use Rattle.std.proofs.shelf.Elements.{has-append-left, has-append-right}
 use Rattle.std.proofs.shelf.Lists.{length-append}
-use Rattle.rows.specs.Rows.{Ascending, Count}
+use Rattle.rows.specs.Rows.{Ascending}
 use Rattle.rows.proofs.Members.{has-none, has-cases}
 use Rattle.rows.proofs.Properties.{row-within}
 use Rattle.book.specs.Meaning.{Meaning, Lawful, FollowsFromOne}
-use Rattle.table.specs.Descent.{Comes}
 
 module _ (m : Meaning) (most : ℕ) (law : Lawful m most) where
   -- what follows from one of the list is among the consequences of all of them

@@ -15,10 +15,10 @@ use Rattle.std.proofs.shelf.Elements.{has-getD}
 use Rattle.std.proofs.shelf.Tests.{both-ways, cases-bool, not-true, not-false, not-from-false, or-cases, or-left, or-right, eqb-true, eq-eqb}
 use Rattle.rows.proofs.Members.{each-member, has-none, has-head, has-tail, has-cases}
 use Rattle.rows.proofs.Tests.{false-from-not-true}
-use Rattle.book.specs.Meaning.{Meaning, Follows}
+use Rattle.book.specs.Meaning.{Meaning}
 use Rattle.book.specs.Lists.{FirstAgainst}
 use Rattle.table.specs.Facts.{ClashesWithNone, NoneFollows}
-use Rattle.table.specs.Checks.{any, stays, untouched, FirstFollowing}
+use Rattle.table.specs.Checks.{any, stays, leads, untouched, FirstFollowing}
 
 -- some number of the list passes
 any-some : (p : ℕ → Bool) (xs : List ℕ) → any p xs ≡ true → (d : ℕ) × Has xs d × (p d ≡ true)
@@ -42,7 +42,7 @@ none-tells p xs = (
   λ none. not-from-false (any p xs) (false-from-not-true (any p xs) (λ e. let r = any-some p xs e in none (r .0) (r .1) (r .2))),
 )
 
-has-tells : (d : ℕ) (xs : List ℕ) → Decides (any (eqb d) xs) (Has xs d)
+pub has-tells : (d : ℕ) (xs : List ℕ) → Decides (any (eqb d) xs) (Has xs d)
 has-tells d xs = (
   (λ e. let r = any-some (eqb d) xs e in subst (Has xs) (sym (eqb-true d (r .0) (r .2))) (r .1)),
   λ h. any-has (eqb d) xs d h (eq-eqb d d refl),
@@ -56,7 +56,7 @@ module _ (m : Meaning) (list : List ℕ) (c : ℕ) where
 
   pub untouched-tells : Decides (untouched m list c) (NoneFollows m list c)
   untouched-tells =
-      let tells = none-tells (λ d. any (eqb d) (m .consequences c)) list in
+      let tells = none-tells (leads m c) list in
       ((λ e d h f. tells .0 e d h (has-tells d (m .consequences c) .1 f)), λ none. tells .1 (λ d h q. none d h (has-tells d (m .consequences c) .0 q)))
 
   -- the first against c is none exactly when c clashes with none
@@ -69,10 +69,13 @@ module _ (m : Meaning) (list : List ℕ) (c : ℕ) where
 
   -- the first that follows from c is none exactly when none does
   pub first-following-tells : (r : Option ℕ) (b : Bool) → FirstFollowing m list c r → isSome r ≡ not b → Decides b (NoneFollows m list c)
-  first-following-tells None b first e = ((λ _. each-member (λ d. Follows m c d → ⊥) list first), λ _. not-false b (sym e))
+  first-following-tells None b first e = (
+    (λ _ d h f. both-ways (leads m c d) (each-member (λ x. leads m c x ≡ false) list first d h) (has-tells d (m .consequences c) .1 f)),
+    λ _. not-false b (sym e),
+  )
   first-following-tells (Some i) b first e = (
     (λ h. absurd (both-ways b (not-true b (sym e)) h)),
-    λ none. absurd (none (getD list i 0) (has-getD list i 0 (first .0)) (first .1)),
+    λ none. absurd (none (getD list i 0) (has-getD list i 0 (first .0)) (has-tells (getD list i 0) (m .consequences c) .0 (first .1))),
   )
 
 -- a list has a number, or does not

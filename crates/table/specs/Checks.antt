@@ -2,7 +2,7 @@
 -- Private functions alone cite this file; no contract of a public call rests on it.
 use mathlib.Core.Path.{_≡_}
 use mathlib.Core.List.{List, [], _∷_, _++_}
-use mathlib.Core.Bool.{Bool, false, not, _||_}
+use mathlib.Core.Bool.{Bool, true, false, not, _||_}
 use mathlib.Core.Logic.{_⊎_}
 use Prim.Native.Nat.{ℕ, _+_, _≤_, _<_}
 use lib.Dec.{eqb}
@@ -11,7 +11,7 @@ use Rattle.std.specs.shelf.Lists.{Has, kept-by}
 use Rattle.rows.specs.Rows.{Count}
 use Rattle.std.specs.declared.option.Option.{Option}
 use Rattle.std.specs.declared.option.Option.the-variants.{Some, None}
-use Rattle.book.specs.Meaning.{Meaning, Follows, NothingClashes}
+use Rattle.book.specs.Meaning.{Meaning, NothingClashes}
 use Rattle.table.specs.Facts.{ShortAndKnown}
 use Rattle.table.specs.Descent.{Comes}
 use Rattle.table.specs.declared.refusals.Refusal.{Refusal}
@@ -26,14 +26,18 @@ any p (x ∷ xs) = p x || any p xs
 abbrev pub stays : Meaning → List ℕ → ℕ → Bool
 stays m list c = not (any (λ d. m .clash d c) list)
 
+-- whether d follows from c
+abbrev pub leads : Meaning → ℕ → ℕ → Bool
+leads m c d = any (eqb d) (m .consequences c)
+
 -- whether none of the list follows from c
 abbrev pub untouched : Meaning → List ℕ → ℕ → Bool
-untouched m list c = not (any (λ d. any (eqb d) (m .consequences c)) list)
+untouched m list c = not (any (leads m c) list)
 
 -- the place of the first of the list that follows from c; none where none does
 abbrev pub FirstFollowing : Meaning → List ℕ → ℕ → Option ℕ → Type 0
-FirstFollowing m list c None = (k : ℕ) → k < length list → Follows m c (getD list k 0) → ⊥
-FirstFollowing m list c (Some i) = (i < length list) × Follows m c (getD list i 0)
+FirstFollowing m list c None = (k : ℕ) → k < length list → leads m c (getD list k 0) ≡ false
+FirstFollowing m list c (Some i) = (i < length list) × (leads m c (getD list i 0) ≡ true)
 
 -- the refusal of n facts in a table of fewer cells
 abbrev pub TooMany : ℕ → ℕ → Refusal → Type 0

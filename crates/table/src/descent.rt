@@ -43,7 +43,8 @@ impl Descent {
     {
         let mut left = [0; 256];
         let mut heads = [0; 256];
-        for j in 0..list.len() {
+        let n = list.len();
+        for j in 0..n {
             let count = book.count_following(list[j]);
             left[j] = count;
             heads[j] = head(book, list[j], count);

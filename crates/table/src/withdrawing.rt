@@ -5,7 +5,7 @@ ghost use Rattle.std.specs.Results.{Cases};
 ghost use Rattle.rows.specs.Rows.{RowOf, Count};
 ghost use Rattle.table.specs.Cells.{laid};
 ghost use Rattle.table.specs.Facts.{AfterWithdrawal, OnlyIn, UnknownStay};
-ghost use Rattle.table.specs.Checks.{untouched, FirstFollowing};
+ghost use Rattle.table.specs.Checks.{leads, untouched, FirstFollowing};
 ghost use Rattle.table.specs.Calls.{Withdraws};
 ghost use Rattle.table.specs.Worlds.{WithdrawalByWorlds, SomeWorldHoldsExactly};
 ghost use Rattle.table.specs.View.{cells-of, facts-of};
@@ -44,11 +44,18 @@ fn first_following<B: Book>(book: &B, list: &[u64], c: u64) -> Option<usize>
     ensures { λ r. ⌜ FirstFollowing (meaning (now (book .entry))) (now (list .entry)) c r ⌝ }
 {
     for i in 0..list.len() {
-        if book.follows(c, list[i]) {
+        if leads_to(book, c, list[i]) {
             return Some(i);
         }
     }
     None
+}
+
+// Whether the fact follows from the code.
+fn leads_to<B: Book>(book: &B, c: u64, fact: u64) -> bool
+    ensures { λ r. ⌜ r ≡ leads (meaning (now (book .entry))) c fact ⌝ }
+{
+    book.follows(c, fact)
 }
 
 impl<'a> Table<'a> {
