@@ -50,17 +50,21 @@ module _ (cells : List ℕ) (held : ℕ) (fits : held ≤ used cells) (up : Asce
     same-used : used cells′ ≡ used cells
     same-used = ap used is ∙ used-laid staying cells stay-fits
 
-    pub room-left : kept + come ≤ used cells′
+    room-left : kept + come ≤ used cells′
     room-left = omega (arith, same-used, can .room)
 
-    pub laid-again : cells′ ≡ laid (take kept cells′) cells′
+    laid-again : cells′ ≡ laid (take kept cells′) cells′
     laid-again = is ∙ sym (laid-laid staying cells stay-fits staying) ∙ ap (laid staying) (sym is) ∙ ap (λ l. laid l cells′) (sym facts-stay)
 
-    pub stay-ascends : Ascending (take kept cells′)
+    stay-ascends : Ascending (take kept cells′)
     stay-ascends = subst Ascending (sym facts-stay) (staying-ascends m most law list (take held cells) (can .nothing-clashes) up)
 
-    pub coming-to-stay : Count (Comes m list (take kept cells′)) come
+    coming-to-stay : Count (Comes m list (take kept cells′)) come
     coming-to-stay = subst (λ l. Count (Comes m list l) come) (sym facts-stay) (comes-to-staying m most law list (take held cells) (can .nothing-clashes) up come (can .coming))
+
+    -- what the entry of what follows asks
+    pub can-enter : (kept + come ≤ used cells′) × (cells′ ≡ laid (take kept cells′) cells′) × Ascending (take kept cells′) × Count (Comes m list (take kept cells′)) come
+    can-enter = (room-left, laid-again, stay-ascends, coming-to-stay)
 
     -- what follows is entered
     module _ (cells″ : List ℕ) (long : length cells″ ≡ length cells′) (facts : RowOf (λ c. FollowsFromOne m list c ⊎ Has (take kept cells′) c) (take (kept + come) cells″))
@@ -71,10 +75,10 @@ module _ (cells : List ℕ) (held : ℕ) (fits : held ≤ used cells) (up : Asce
       new-fits : length (take (kept + come) cells″) ≤ used cells
       new-fits = omega (arith, new-long, room-left, same-used)
 
-      pub new-laid : cells″ ≡ laid (take (kept + come) cells″) cells
+      new-laid : cells″ ≡ laid (take (kept + come) cells″) cells
       new-laid = is′ ∙ ap (laid (take (kept + come) cells″)) is ∙ laid-laid staying cells stay-fits (take (kept + come) cells″)
 
-      pub new-kept : Kept cells″ (kept + come)
+      new-kept : Kept cells″ (kept + come)
       new-kept = kept-at (take (kept + come) cells″) cells cells″ (kept + come) new-laid (sym new-long) new-fits (facts .ascends)
 
       new-leaves : RowOf (AfterDelivery m list (take held cells)) (take (kept + come) cells″)
@@ -85,7 +89,7 @@ module _ (cells : List ℕ) (held : ℕ) (fits : held ≤ used cells) (up : Asce
       new-gone = gone-count m most law list (take held cells) (can .nothing-clashes) up (take (kept + come) cells″) new-leaves (held - kept)
           (omega (arith, number, held-long, fewer-kept (stays m list) cells held fits))
 
-      pub new-accepted : DeliveryAccepted m (used cells) list (take held cells) (take (kept + come) cells″) (held - kept) come
+      new-accepted : DeliveryAccepted m (used cells) list (take held cells) (take (kept + come) cells″) (held - kept) come
       new-accepted = record {
         short-and-known = can .short-and-known;
         nothing-clashes = can .nothing-clashes;
@@ -95,6 +99,10 @@ module _ (cells : List ℕ) (held : ℕ) (fits : held ≤ used cells) (up : Asce
         number-come = come-count m most law list (take held cells) (can .nothing-clashes) up (take (kept + come) cells″) new-leaves come (can .coming);
       }
 
+      -- the delivery is done
+      pub entered : DeliveryAccepted m (used cells) list (take held cells) (take (kept + come) cells″) (held - kept) come × (cells″ ≡ laid (take (kept + come) cells″) cells) × Kept cells″ (kept + come)
+      entered = (new-accepted, new-laid, new-kept)
+
   -- a withdrawal leaves what leads to none of the named facts
   module _ (m : Meaning) (list cells′ : List ℕ) (kept : ℕ) (number : kept ≡ length (kept-by (untouched m list) (take held cells))) (is : cells′ ≡ laid (kept-by (untouched m list) (take held cells)) cells) where
     abbrev left : List ℕ
@@ -103,13 +111,13 @@ module _ (cells : List ℕ) (held : ℕ) (fits : held ≤ used cells) (up : Asce
     left-fits : length left ≤ used cells
     left-fits = omega (arith, fewer-kept (untouched m list) cells held fits)
 
-    pub facts-left : take kept cells′ ≡ left
+    facts-left : take kept cells′ ≡ left
     facts-left = facts-at left cells cells′ kept is number left-fits
 
-    pub left-kept : Kept cells′ kept
+    left-kept : Kept cells′ kept
     left-kept = kept-at left cells cells′ kept is number left-fits (ascending-kept (untouched m list) (take held cells) up)
 
-    pub left-laid : cells′ ≡ laid (take kept cells′) cells
+    left-laid : cells′ ≡ laid (take kept cells′) cells
     left-laid = is ∙ ap (λ l. laid l cells) (sym facts-left)
 
     left-row : RowOf (AfterWithdrawal m list (take held cells)) left
@@ -121,10 +129,10 @@ module _ (cells : List ℕ) (held : ℕ) (fits : held ≤ used cells) (up : Asce
       );
     }
 
-    pub left-leaves : RowOf (AfterWithdrawal m list (take held cells)) (take kept cells′)
+    left-leaves : RowOf (AfterWithdrawal m list (take held cells)) (take kept cells′)
     left-leaves = subst (RowOf (AfterWithdrawal m list (take held cells))) (sym facts-left) left-row
 
-    pub left-gone : Count (OnlyIn (take held cells) (take kept cells′)) (held - kept)
+    left-gone : Count (OnlyIn (take held cells) (take kept cells′)) (held - kept)
     left-gone =
         let goes : ℕ → Bool = λ c. not (untouched m list c) in (
           kept-by goes (take held cells),
@@ -139,6 +147,10 @@ module _ (cells : List ℕ) (held : ℕ) (fits : held ≤ used cells) (up : Asce
           },
           omega (arith, number, held-long, length-kept-by-both (untouched m list) goes (λ _. refl) (take held cells)),
         )
+
+    -- the withdrawal is done
+    pub withdrawn : RowOf (AfterWithdrawal m list (take held cells)) (take kept cells′) × Count (OnlyIn (take held cells) (take kept cells′)) (held - kept) × (cells′ ≡ laid (take kept cells′) cells) × Kept cells′ kept
+    withdrawn = (left-leaves, left-gone, left-laid, left-kept)
 
 -- from a code that the book does not know nothing follows
 pub unknown-stay : (m : Meaning) (most : ℕ) (law : Lawful m most) (list old new : List ℕ) (r : Result (ℕ × ℕ) Refusal) → Withdraws m list old new r → UnknownStay m old new

@@ -112,7 +112,7 @@ module _ (m : Meaning) (most : ℕ) (law : Lawful m most) (list kept coming : Li
     largest-is : Largest (FollowsBelow m list (was .bound)) (Some c)
     largest-is = subst (Largest (FollowsBelow m list (was .bound))) is (was .ahead .largest)
 
-    pub front-ascends : Ascending (take below cells)
+    front-ascends : Ascending (take below cells)
     front-ascends = ascending-front (take below cells) (was .moved) (subst Ascending (was .row) up)
 
     -- what has moved up is above the next code
@@ -125,11 +125,15 @@ module _ (m : Meaning) (most : ℕ) (law : Lawful m most) (list kept coming : Li
       | inr k ↦ omega (arith, moved-above c k)
     ]
 
-    pub below-top : below ≤ top
+    below-top : below ≤ top
     below-top = omega (arith, was .gap)
 
-    pub room-for-next : (Has (take below cells) c → ⊥) → below < top
+    room-for-next : (Has (take below cells) c → ⊥) → below < top
     room-for-next out = omega (arith, was .gap, gap-new (was .bound) c largest-is (only-in-front out))
+
+    -- what the entry of the next code asks
+    pub can-place : (top ≤ length cells) × (below ≤ top) × Ascending (take below cells) × ((Has (take below cells) c → ⊥) → below < top)
+    can-place = (was .within, below-top, front-ascends, room-for-next)
 
     -- one more is entered
     module _ (cells′ left′ heads′ : List ℕ) (stay free : ℕ) (r : Option ℕ) (long : length cells′ ≡ length cells) (p : Placing cells cells′ below top c stay free)

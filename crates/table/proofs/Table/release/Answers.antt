@@ -8,7 +8,7 @@ use Rattle.table.specs.Cells.{laid}
 use Rattle.table.specs.Facts.{AfterWithdrawal, OnlyIn}
 use Rattle.table.specs.Checks.{untouched}
 use Rattle.table.specs.View.{cells-of, facts-of}
-use Rattle.table.proofs.Changes.{fewer-kept, left-kept, left-laid, left-leaves, left-gone}
+use Rattle.table.proofs.Changes.{fewer-kept, withdrawn}
 use Rattle.table.proofs.Table.release.Needs as need
 
 pub retain-kept-requires : need.retain-kept-requires
@@ -19,7 +19,7 @@ retain-kept-requires g c κs =
 pub ghost-self : need.ghost-self
 ghost-self g c =
     let t = c .replace-cells .result in
-    left-kept (t .cells .now) (t .held) (t .fits) (t .ascends) (g .B·Book .meaning (c .args .book .now)) (c .args .list .now) (c .retain-kept .last .cells) (c .retain-kept .result) (c .retain-kept .ensures .number) (c .retain-kept .ensures .cells)
+    withdrawn (t .cells .now) (t .held) (t .fits) (t .ascends) (g .B·Book .meaning (c .args .book .now)) (c .args .list .now) (c .retain-kept .last .cells) (c .retain-kept .result) (c .retain-kept .ensures .number) (c .retain-kept .ensures .cells) .3
 
 pub sub-result : need.sub-result
 sub-result g c =
@@ -34,9 +34,10 @@ returns g c =
     let e = c .replace-cells .ensures .value in
     let kept = c .retain-kept .result in
     let after = c .retain-kept .last .cells in
+    let done = withdrawn (t .cells .now) (t .held) (t .fits) (t .ascends) m list after kept (c .retain-kept .ensures .number) (c .retain-kept .ensures .cells) in
     record {
-      facts = subst (λ s. RowOf (AfterWithdrawal m list (facts-of s)) (take kept after)) e (left-leaves (t .cells .now) (t .held) (t .fits) (t .ascends) m list after kept (c .retain-kept .ensures .number) (c .retain-kept .ensures .cells));
-      cells = subst (λ s. after ≡ laid (take kept after) (cells-of s)) e (left-laid (t .cells .now) (t .held) (t .fits) (t .ascends) m list after kept (c .retain-kept .ensures .number) (c .retain-kept .ensures .cells));
-      gone = subst (λ s. Count (OnlyIn (facts-of s) (take kept after)) (t .held - kept)) e (left-gone (t .cells .now) (t .held) (t .fits) (t .ascends) m list after kept (c .retain-kept .ensures .number) (c .retain-kept .ensures .cells));
+      facts = subst (λ s. RowOf (AfterWithdrawal m list (facts-of s)) (take kept after)) e (done .0);
+      cells = subst (λ s. after ≡ laid (take kept after) (cells-of s)) e (done .2);
+      gone = subst (λ s. Count (OnlyIn (facts-of s) (take kept after)) (t .held - kept)) e (done .1);
       named = ap (λ s. name (s .cells)) e;
     }

@@ -2,7 +2,7 @@ use mathlib.Core.Path.{refl}
 use native.Mathlib.Omega.{arith}
 use lib.ListN.{take}
 use Rattle.table.proofs.Entries.{ahead-on, height-falls}
-use Rattle.table.proofs.Merging.{merging-start, merging-more, merging-all, front-ascends, below-top, room-for-next}
+use Rattle.table.proofs.Merging.{merging-start, merging-more, merging-all, can-place}
 use Rattle.table.proofs.entering.enter.Needs as need
 
 pub loop-next-holds : need.loop-next-holds
@@ -25,12 +25,8 @@ place-requires g c κs =
     let row = take (c .args .kept) (c .args .cells .now) in
     let inv = c .loop-next .inv in
     let here = c .loop-next .descent in
-    record {
-      within = inv .2 .within;
-      behind = below-top m (g .B·Book .most) law (c .args .list .now) row (inv .0) (c .pre .ascends) (inv .1) (c .loop-next .cells) (here .left) (here .heads) (c .loop-next .below) (c .loop-next .top) (c .loop-next .next) (c .in-Some .code) (c .in-Some .is) (inv .2);
-      ascends = front-ascends m (g .B·Book .most) law (c .args .list .now) row (inv .0) (c .pre .ascends) (inv .1) (c .loop-next .cells) (here .left) (here .heads) (c .loop-next .below) (c .loop-next .top) (c .loop-next .next) (c .in-Some .code) (c .in-Some .is) (inv .2);
-      room = room-for-next m (g .B·Book .most) law (c .args .list .now) row (inv .0) (c .pre .ascends) (inv .1) (c .loop-next .cells) (here .left) (here .heads) (c .loop-next .below) (c .loop-next .top) (c .loop-next .next) (c .in-Some .code) (c .in-Some .is) (inv .2);
-    }
+    let asked = can-place m (g .B·Book .most) law (c .args .list .now) row (inv .0) (c .pre .ascends) (inv .1) (c .loop-next .cells) (here .left) (here .heads) (c .loop-next .below) (c .loop-next .top) (c .loop-next .next) (c .in-Some .code) (c .in-Some .is) (inv .2) in
+    record { within = asked .0; behind = asked .1; ascends = asked .2; room = asked .3 }
 
 pub advance-next-requires : need.advance-next-requires
 advance-next-requires g c κs =
