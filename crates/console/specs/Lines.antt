@@ -39,7 +39,7 @@ abbrev pub changed-text : Result (ℕ × ℕ) table.Refusal → List ℕ
 changed-text (Ok counts) = codes "ok " ++ (decimal (counts .0) ++ (codes " " ++ decimal (counts .1)))
 changed-text (Err e) = printed.refusal-text e
 
--- what a call of a journal answers; to a question a number, `yes` or `no`, and a code or `none`
+-- what a call of a journal answers; to a question a number, `yes` or `no`, or a code or `none`
 abbrev pub answer-text : journal.Answer → List ℕ
 answer-text (Changed r) = changed-text r
 answer-text (Number n) = decimal n

@@ -9,7 +9,7 @@ ghost use Rattle.std.specs.shelf.Lists.{kept-by};
 ghost use Rattle.rows.specs.Rows.{Ascending, Placed};
 
 // The place of `c` in a row that ascends, or the place where it belongs. In a list that does not ascend `c` may be
-// missed; where a place is answered, `c` stands there.
+// missed; where `Ok` is answered, `c` stands there.
 pub fn find(row: &[u64], c: u64) -> Result<usize, usize>
     ensures placed { λ r. ⌜ (Ascending (now (row .entry)) → Placed (now (row .entry)) c r) ⌝ }
     ensures within { λ r. ⌜ Cases r (λ i. (i < length (now (row .entry))) × (getD (now (row .entry)) i 0 ≡ c)) (λ i. i ≤ length (now (row .entry))) ⌝ }

@@ -29,7 +29,7 @@ use Rattle.table.proofs.Cells.{used-laid, laid-laid}
 use Rattle.table.proofs.Runs.{law-of-runs, after-each}
 use Rattle.table.proofs.Determined.{only-one-run}
 
--- none of no answers
+-- the first n of no answers are none
 none-of : (n : ℕ) → _≡_ {A = List Answer} (take n []) []
 none-of zero = refl
 none-of (suc n) = refl
@@ -62,7 +62,7 @@ module _ (facts : ℕ → List ℕ) (i : ℕ) (new : List ℕ) where
   holds-after : then-holds facts i new (i + 1) ≡ new
   holds-after = cond-false (leb (i + 1) i) (facts (i + 1)) new (lt-leb (i + 1) i (omega arith))
 
--- a call that leaves few facts of few
+-- what a call leaves fits if what was held did
 fits-on : (m : Meaning) (size : ℕ) (old new : List ℕ) (call : Call) (answer : Answer) → CarriedOut m size old call new answer → length old ≤ size → length new ≤ size
 fits-on m size old new (Deliver list) answer l h = delivered (l .0) (l .2) where
   delivered : (r : Result (ℕ × ℕ) Refusal) → Delivers m size (now list) old new r → length new ≤ size
@@ -78,7 +78,7 @@ fits-on m size old new (NthHeld k) answer l h = omega (arith, ap length (l .1))
 
 run-more : (m : Meaning) (size i : ℕ) (calls : List Call) (answers : List Answer) (facts : ℕ → List ℕ) (call : Call) (answer : Answer) (new : List ℕ)
     → length calls ≡ i → Run m size calls answers facts → CarriedOut m size (facts i) call new answer → Run m size (calls ++ (call ∷ [])) (answers ++ (answer ∷ [])) (then-holds facts i new)
-run-more m size i calls answers facts call answer new long run leaves = record {
+run-more m size i calls answers facts call answer new long run carried = record {
   all-answered = length-push answers answer ∙ omega (arith, run .all-answered, length-push calls call);
   none-at-first = holds-before facts i new 0 (omega arith) ∙ run .none-at-first;
   each-carried-out = λ j c a is-call is-answer. elim (nth-push calls call c j is-call) [
@@ -94,7 +94,7 @@ run-more m size i calls answers facts call answer new long run leaves = record {
       | inr q ↦
           let e : i ≡ j = omega (arith, p .0) in
           let here : CarriedOut m size (then-holds facts i new i) call (then-holds facts i new (i + 1)) answer
-          = subst (λ l. CarriedOut m size l call (then-holds facts i new (i + 1)) answer) (sym (holds-before facts i new i (omega arith))) (subst (λ l. CarriedOut m size (facts i) call l answer) (sym (holds-after facts i new)) leaves) in
+          = subst (λ l. CarriedOut m size l call (then-holds facts i new (i + 1)) answer) (sym (holds-before facts i new i (omega arith))) (subst (λ l. CarriedOut m size (facts i) call l answer) (sym (holds-after facts i new)) carried) in
           subst (λ k. CarriedOut m size (then-holds facts i new k) c (then-holds facts i new (k + 1)) a) e
           (subst (λ b. CarriedOut m size (then-holds facts i new i) c (then-holds facts i new (i + 1)) b) (q .1) (subst (λ d. CarriedOut m size (then-holds facts i new i) d (then-holds facts i new (i + 1)) answer) (p .1) here))
     ]

@@ -222,10 +222,10 @@ module _ (m : Meaning) (most : ℕ) (law : Lawful m most) (list kept coming : Li
           let n : length (take below cells) ≡ below = length-take-le below cells (omega (arith, below-top, was .within)) in
           let parts : length (take below cells) ≡ length (p .lows) + (length (middle .0) + length (p .highs)) = ap length (middle .1) ∙ length-append (p .lows) _ ∙ ap (λ k. length (p .lows) + k) (length-append (middle .0) (p .highs)) in
           elim (middle .2) [
-            | inl q ↦ omega (arith, n, parts, ap length (q .0), p .stay-is, p .free-is, was .gap, gap-new (was .bound) c largest-is (only-in-front (q .1)))
+            | inl q ↦ omega (arith, n, parts, ap length (q .0), p .stay-is, p .at-is, was .gap, gap-new (was .bound) c largest-is (only-in-front (q .1)))
             | inr q ↦
                 let old : Has kept c = subst (λ l. Has l c) (sym (was .row)) (has-append-left (take below cells) (was .moved) c (q .1)) in
-                omega (arith, n, parts, ap length (q .0), p .stay-is, p .free-is, was .gap, ap length (gap-old (was .bound) c largest-is old))
+                omega (arith, n, parts, ap length (q .0), p .stay-is, p .at-is, was .gap, ap length (gap-old (was .bound) c largest-is old))
           ]
 
       pub merging-more : Merging m list kept coming cells′ stay free left′ heads′ r
@@ -234,7 +234,7 @@ module _ (m : Meaning) (most : ℕ) (law : Lawful m most) (list kept coming : Li
         ahead = record { at = at; largest = largest };
         moved = moved-now;
         row = row-now;
-        within = omega (arith, p .free-is, was .within);
+        within = omega (arith, p .at-is, was .within);
         ascends = subst Ascending (sym (p .back)) ascends-now;
         members = λ x. ((λ h. to-members x (subst (λ l. Has l x) (p .back) h)), λ q. subst (λ l. Has l x) (sym (p .back)) (from-members x q));
         apart = λ x y h k. omega (arith, p .lows-below x (subst (λ l. Has l x) (p .front) h), above-code y (subst (λ l. Has l y) (p .back) k));

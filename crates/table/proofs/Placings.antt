@@ -95,7 +95,7 @@ module _ (old : List ℕ) (below top code stay above : ℕ) (within : top ≤ le
           highs-above = each-member (λ x. code < x) (drop above (take below old)) (λ k h.
               omega (arith, around .beyond (above + k) (omega arith) (omega (arith, high-long, long)), getD-drop above (take below old) k 0));
           stay-is = sym (length-take-le stay old (omega (arith, stay-within, above-within)));
-          free-is = omega (arith, high-long, above-within);
+          at-is = omega (arith, high-long, above-within);
           front = take-set-le stay moved (free - 1) code (omega arith) ∙ ap (take stay) moved-parts ∙ take-append-le stay (take free old) _ (omega (arith, free-long)) ∙ take-take stay free old (omega arith);
           back = drop-set moved (free - 1) code (omega (arith, whole)) ∙ ap (λ n. code ∷ drop n moved) one ∙ ap (λ t. code ∷ drop free t) moved-parts ∙ ap (λ t. code ∷ t) (drop-at (take free old) _ free free-long);
         }

@@ -22,11 +22,11 @@ use Rattle.table.specs.Calls.{DeliveryAccepted, Delivers, Withdraws}
 use Rattle.table.specs.Worlds.{SomeWorldHoldsExactly, TurnedAway, DeliveryByWorlds, WithdrawalByWorlds}
 use Rattle.table.specs.declared.refusals.Refusal.{Refusal}
 
--- a list that is refused for its length or for an unknown code cannot be carried out
+-- a list that is refused for its length or for an unknown code is not short and known
 pub refused-is-not-short-and-known : (m : Meaning) (list : List ℕ) (e : Refusal) → ListRefused m list e → ShortAndKnown m list → ⊥
-refused-is-not-short-and-known m list e r read = elim r [
-  | inl a ↦ omega (arith, a .0, read .short)
-  | inr a ↦ let f = a .1 .1 in both-ways _ (f .1) (read .known _ (has-getD list (a .1 .0) 0 (f .0)))
+refused-is-not-short-and-known m list e r fine = elim r [
+  | inl a ↦ omega (arith, a .0, fine .short)
+  | inr a ↦ let f = a .1 .1 in both-ways _ (f .1) (fine .known _ (has-getD list (a .1 .0) 0 (f .0)))
 ]
 
 module _ (m : Meaning) (most : ℕ) (law : Lawful m most) where
@@ -38,15 +38,15 @@ module _ (m : Meaning) (most : ℕ) (law : Lawful m most) where
 
   -- where nothing clashes, it is right not to refuse with 8
   rightly-not-contradictory : (list : List ℕ) (r : Result (ℕ × ℕ) Refusal) → NothingClashes m list → (TurnedAway 8 r → ⊥) → ShortAndKnown m list → TurnedAway 8 r ↔ NoWorldHoldsAll m list
-  rightly-not-contradictory list r none other read = ((λ e. absurd (other e)), λ nowhere. absurd (both-ways false refl (first-clash-tells m most law list None none (read .known) .1 nowhere)))
+  rightly-not-contradictory list r none other fine = ((λ e. absurd (other e)), λ nowhere. absurd (both-ways false refl (first-clash-tells m most law list None none (fine .known) .1 nowhere)))
 
-  -- a list that can be read is refused with 8 exactly when no world holds it
+  -- a short list of known codes is refused with 8 exactly when no world holds it
   refused-by-worlds : (size : ℕ) (list old : List ℕ) (e : Refusal) → DeliveryRefused m size list old e → ShortAndKnown m list → TurnedAway 8 (Err e) ↔ NoWorldHoldsAll m list
-  refused-by-worlds size list old e r read = elim r [
-    | inl a ↦ absurd (refused-is-not-short-and-known m list e a read)
+  refused-by-worlds size list old e r fine = elim r [
+    | inl a ↦ absurd (refused-is-not-short-and-known m list e a fine)
     | inr a ↦ elim a [
-      | inl b ↦ ((λ _. first-clash-tells m most law list (Some (b .1 .0)) (b .1 .1) (read .known) .0 refl), λ _. b .1 .2 .0)
-      | inr b ↦ rightly-not-contradictory list (Err e) (b .1) (λ eight. omega (arith, eight, b .2 .3 .0)) read
+      | inl b ↦ ((λ _. first-clash-tells m most law list (Some (b .1 .0)) (b .1 .1) (fine .known) .0 refl), λ _. b .1 .2 .0)
+      | inr b ↦ rightly-not-contradictory list (Err e) (b .1) (λ eight. omega (arith, eight, b .2 .3 .0)) fine
     ]
   ]
 

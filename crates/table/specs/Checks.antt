@@ -1,4 +1,4 @@
--- The steps of a delivery: tests of a held fact, and what is found before anything is written.
+-- Steps of deliveries and withdrawals: tests of a held fact, what is found before anything is written, and how a code is entered.
 -- Private functions alone cite this file; no contract of a public call rests on it.
 use mathlib.Core.Path.{_≡_}
 use mathlib.Core.List.{List, [], _∷_, _++_}
@@ -37,7 +37,7 @@ untouched m list c = not (any (leads m c) list)
 -- the place of the first of the list that follows from c; none where none does
 abbrev pub FirstFollowing : Meaning → List ℕ → ℕ → Option ℕ → Type 0
 FirstFollowing m list c None = (k : ℕ) → k < length list → leads m c (getD list k 0) ≡ false
-FirstFollowing m list c (Some i) = (i < length list) × (leads m c (getD list i 0) ≡ true)
+FirstFollowing m list c (Some i) = (i < length list) × (leads m c (getD list i 0) ≡ true) × ((k : ℕ) → k < i → leads m c (getD list k 0) ≡ false)
 
 -- the refusal of n facts in a table of fewer cells
 abbrev pub TooMany : ℕ → ℕ → Refusal → Type 0
@@ -57,14 +57,14 @@ pub record Around (row : List ℕ) (code stay above : ℕ) : Type 0 where
   pub beyond : (k : ℕ) → above ≤ k → k < length row → code < getD row k 0
   pub between : (above ≡ stay) ⊎ ((above ≡ stay + 1) × (getD row stay 0 ≡ code))
 
--- a code finds its place between the numbers of a row: those below stay, those above move up before what stood there
-pub record Placing (old new : List ℕ) (below top code stay free : ℕ) : Type 0 where
+-- a code is entered in a row: those below it stay, those above move up to end at `top`, and it stands before them, at `at`
+pub record Placing (old new : List ℕ) (below top code stay at : ℕ) : Type 0 where
   pub lows : List ℕ
   pub highs : List ℕ
   pub row : (take below old ≡ lows ++ highs) ⊎ (take below old ≡ lows ++ (code ∷ highs))
   pub lows-below : (x : ℕ) → Has lows x → x < code
   pub highs-above : (x : ℕ) → Has highs x → code < x
   pub stay-is : stay ≡ length lows
-  pub free-is : free + (1 + length highs) ≡ top
+  pub at-is : at + (1 + length highs) ≡ top
   pub front : take stay new ≡ lows
-  pub back : drop free new ≡ code ∷ (highs ++ drop top old)
+  pub back : drop at new ≡ code ∷ (highs ++ drop top old)

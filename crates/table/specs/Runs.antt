@@ -67,7 +67,7 @@ pub record Replayed (m : Meaning) (before after held : List ℕ) (calls : List C
   pub only-run : (answers′ : List Answer) (facts′ : ℕ → List ℕ) → Run m (used before) calls answers′ facts′ → (answers′ ≡ answers) × ((i : ℕ) → i ≤ length calls → facts′ i ≡ facts i)
   -- the first calls are a run by themselves, with the same answers and facts
   pub first-calls : (i : ℕ) → i ≤ length calls → Run m (used before) (take i calls) (take i answers) facts
-  -- the making and each call leave in every cell what is defined: the facts in the first cells, then zeros, and the rest as lent
+  -- what the making and each call leave in every cell: the facts in the first cells, then zeros, and the rest as lent
   pub made : cells 0 ≡ laid [] before
   pub each-writes : (i : ℕ) → i < length calls → cells (i + 1) ≡ laid (facts (i + 1)) (cells i)
   pub in-first-cells : (i : ℕ) → i ≤ length calls → cells i ≡ laid (facts i) before

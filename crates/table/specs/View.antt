@@ -5,7 +5,7 @@ use lib.ListN.{take}
 use denote.Ref.{now}
 use Rattle.table.specs.declared.Table.{Table}
 
--- the cells that the table was lent
+-- what the cells hold that the table was lent
 abbrev pub cells-of : Table → List ℕ
 cells-of t = now (t .cells)
 

@@ -88,9 +88,9 @@ impl<'a> Table<'a> {
     }
 
     // The facts that stay, with `come` more, are no more than the cells in use. Where they would be so even if all
-    // stayed, the book is not asked who goes.
+    // stayed, the book is not asked which go.
     fn check_room<B: Book>(&self, book: &B, list: &[u64], come: usize) -> Result<(), Refusal>
-        requires { ⌜ come ≤ 16777216 ⌝ }
+        requires { ⌜ come ≤ 256 * 65536 ⌝ }
         ensures { λ r. ⌜ Cases r (λ _. length (kept-by (stays (meaning (now (book .entry))) (now (list .entry))) (facts-of (now (self .entry)))) + come ≤ used (cells-of (now (self .entry)))) (λ e. TooMany (length (kept-by (stays (meaning (now (book .entry))) (now (list .entry))) (facts-of (now (self .entry)))) + come) (used (cells-of (now (self .entry)))) e) ⌝ }
     {
         let size = self.cells.len().min(CELL_LIMIT);

@@ -14,7 +14,7 @@ pub(crate) struct Descent {
 }
 
 impl Descent {
-    // The largest code that follows from one of the list, with the descent at it.
+    // The descent before its first code, and the largest code that follows from one of the list.
     pub(crate) fn start<B: Book>(book: &B, list: &[u64]) -> (Descent, Option<u64>)
         requires { ⌜ length (now list) ≤ 256 ⌝ }
         ensures at { λ r. ⌜ DescendsAt (meaning (now (book .entry))) (now (list .entry)) (2 ^ 64) (r .0 .left) (r .0 .heads) ⌝ }
@@ -66,7 +66,7 @@ impl Descent {
         largest
     }
 
-    // Leaves `code` behind, up to which all are still to come.
+    // Leaves `code` behind: what was still to come was at most `code`, and is below it now.
     fn pass<B: Book>(&mut self, book: &B, list: &[u64], code: u64)
         requires short { ⌜ length (now list) ≤ 256 ⌝ }
         requires at { ⌜ DescendsAt (meaning (now book)) (now list) (code + 1) (now self .left) (now self .heads) ⌝ }

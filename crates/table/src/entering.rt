@@ -1,6 +1,6 @@
 // What a delivery brings: how many facts come, and their entry among those that stay.
 ghost use mathlib.Core.Logic.{_⊎_};
-ghost use Prim.Native.Nat.{_-_, _≤_, _<_};
+ghost use Prim.Native.Nat.{_-_, _*_, _≤_, _<_};
 ghost use lib.ListN.{length, take};
 ghost use Rattle.std.specs.shelf.Lists.{Has};
 ghost use Rattle.rows.specs.Rows.{Ascending, RowOf, Count};
@@ -16,7 +16,7 @@ pub(crate) fn coming<B: Book>(book: &B, list: &[u64], row: &[u64]) -> usize
     requires short { ⌜ length (now list) ≤ 256 ⌝ }
     requires ascends { ⌜ Ascending (now row) ⌝ }
     ensures number { λ r. ⌜ Count (Comes (meaning (now (book .entry))) (now (list .entry)) (now (row .entry))) r ⌝ }
-    ensures small { λ r. ⌜ r ≤ 16777216 ⌝ }
+    ensures small { λ r. ⌜ r ≤ 256 * 65536 ⌝ }
 {
     let (mut descent, mut next) = Descent::start(book, list);
     let mut come = 0;
@@ -29,7 +29,7 @@ pub(crate) fn coming<B: Book>(book: &B, list: &[u64], row: &[u64]) -> usize
     come
 }
 
-// Enters what follows from one of the list among the first `kept` cells. There are as many cells more as codes come.
+// Enters what follows from one of the list among the first `kept` cells. Behind them is one cell for each code that comes.
 // One pass from the back: each cell moves at most once.
 pub(crate) fn enter<B: Book>(book: &B, list: &[u64], cells: &mut [u64], kept: usize)
     requires short { ⌜ length (now list) ≤ 256 ⌝ }

@@ -19,7 +19,7 @@ pub enum Call<'a> {
     CountHeld,
     // Whether the code is held.
     IsHeld(u64),
-    // Number k, from 0, of the facts held in ascending order.
+    // Number k, from 0, of the facts held in ascending order, or none.
     NthHeld(usize),
 }
 

@@ -28,7 +28,7 @@ pub use refusals::RefusalDisplay;
 pub use refusals::RefusalError;
 pub use refusals::RefusalPartialEq;
 
-// No list has more codes.
+// A list with more codes is refused.
 const LIST_LIMIT: usize = 256;
 
 // No table uses more cells.

@@ -25,7 +25,7 @@ impl<'a> Table<'a> {
         self.find_held(code).is_ok()
     }
 
-    // Number `k`, from 0, of the facts held in ascending order.
+    // Number `k`, from 0, of the facts held in ascending order, or none.
     pub fn nth_held(&self, k: usize) -> Option<u64>
         ensures number { λ r. ⌜ r ≡ nth (facts-of (now (self .entry))) k ⌝ }
         ensures ascending { λ _. ⌜ Ascending (facts-of (now (self .entry))) ⌝ }

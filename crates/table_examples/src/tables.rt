@@ -62,8 +62,7 @@ fn a_thing_is_moved() -> Result<(), Fail> {
     check_eq(table.withdraw(&book, &[2308]), Ok((0, 0)))?;
     check_eq(table.withdraw(&book, &[2304]), Ok((1, 0)))?;
     check_eq(table.count_held(), 0)?;
-    check_eq(cells[0], 0)?;
-    check_eq(cells[3], 0)
+    check_eq(cells, [0; 4])
 }
 
 #[test]
@@ -116,7 +115,7 @@ fn refusals_in_their_order() -> Result<(), Fail> {
     check_eq(
         table.deliver(&book, &[2304, 2305, 2306, 2308, 2307]),
         Err(Refusal::Clash((1, 3))),
-    ).note("9 in 1 and in 4")?;
+    ).note("9 in 1 and in 4; a clash before want of cells")?;
     check_eq(table.deliver(&book, &[0, 2306]), Err(Refusal::Full(4))).note(
         "0 in 0 comes, and nothing goes",
     )?;
@@ -124,7 +123,8 @@ fn refusals_in_their_order() -> Result<(), Fail> {
         "0 in 0 and 9 in 3 come, 9 in 2 goes",
     )?;
     check_eq(table.deliver(&book, &[0, 2308]), Ok((2, 2))).note("9 in 1 and in 2 go")?;
-    check_eq(table.count_held(), 3)?;
+    check_eq(table.deliver(&book, &[0, 2306]), Err(Refusal::Full(4)))?;
+    check_eq(cells, [0, 2304, 2308])?;
     check_eq(Refusal::TooLong(257).number(), 6)?;
     check_eq(Refusal::Unknown(0).number(), 7)?;
     check_eq(Refusal::Clash((0, 0)).number(), 8)?;
@@ -165,10 +165,7 @@ fn the_last_of_65536_cells() -> Result<(), Fail> {
     }
     check_eq(table.count_held(), 65536)?;
     check_eq(table.nth_held(65535), Some(16776960))?;
-    check_eq(
-        table.deliver(&plant()?, &[2304, 2306]),
-        Err(Refusal::Full(65538)),
-    )?;
+    check_eq(table.deliver(&plant()?, &[2305]), Err(Refusal::Full(65537)))?;
     check_eq(cells[65535], 16776960)?;
     check_eq(cells[65536], 7)
 }
