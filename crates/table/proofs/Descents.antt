@@ -104,13 +104,6 @@ module _ (m : Meaning) (most : ℕ) (law : Lawful m most) (list : List ℕ) wher
   pub follows-in-64-bits : (c : ℕ) → FollowsFromOne m list c → c < 2 ^ 64
   follows-in-64-bits c f = law .known-codes-fit c (law .only-known-follow (f .0) c (f .2))
 
-  largest-below-64-bits : (r : Option ℕ) → Largest (FollowsBelow m list (2 ^ 64)) r → Largest (FollowsFromOne m list) r
-  largest-below-64-bits None none = λ c f. none c (f, follows-in-64-bits c f)
-  largest-below-64-bits (Some c) largest = (largest .0 .0, λ d f. largest .1 d (f, follows-in-64-bits d f))
-
-  pub largest-of-all : (left heads : List ℕ) (r : Option ℕ) → DescendsAt m list (2 ^ 64) left heads → LargestHead left heads (length list) r → Largest (FollowsFromOne m list) r
-  largest-of-all left heads r at largest = largest-below-64-bits r (largest-left (2 ^ 64) left heads r at largest)
-
   -- where c is the largest below the bound, the descent is at c
   pub descends-to : (bound : ℕ) (left heads : List ℕ) (c : ℕ) → DescendsAt m list bound left heads → Largest (FollowsBelow m list bound) (Some c) → DescendsAt m list (c + 1) left heads
   descends-to bound left heads c at largest j h =

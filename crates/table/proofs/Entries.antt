@@ -36,13 +36,6 @@ pub record Counting (m : Meaning) (list row left heads : List ℕ) (next : Optio
   pub number : come ≡ length seen
 
 module _ (m : Meaning) (most : ℕ) (law : Lawful m most) (list : List ℕ) where
-  all-below : (r : Option ℕ) → Largest (FollowsFromOne m list) r → Largest (FollowsBelow m list (2 ^ 64)) r
-  all-below None none = λ c f. none c (f .0)
-  all-below (Some c) largest = ((largest .0, follows-in-64-bits m most law list c (largest .0)), λ d f. largest .1 d (f .0))
-
-  pub ahead-start : (left heads : List ℕ) (r : Option ℕ) → DescendsAt m list (2 ^ 64) left heads → Largest (FollowsFromOne m list) r → Ahead m list (2 ^ 64) left heads r
-  ahead-start left heads r at largest = record { at = at; largest = all-below r largest }
-
   -- the descent can go on from its next code
   pub ahead-on : (bound : ℕ) (left heads : List ℕ) (next : Option ℕ) (c : ℕ) → next ≡ Some c → Ahead m list bound left heads next → DescendsAt m list (c + 1) left heads
   ahead-on bound left heads next c is a = descends-to m most law list bound left heads c (a .at) (subst (Largest (FollowsBelow m list bound)) is (a .largest))
@@ -62,10 +55,10 @@ module _ (m : Meaning) (most : ℕ) (law : Lawful m most) (list : List ℕ) wher
   ]
 
   module _ (row : List ℕ) where
-    pub counting-start : (left heads : List ℕ) (r : Option ℕ) → DescendsAt m list (2 ^ 64) left heads → Largest (FollowsFromOne m list) r → Counting m list row left heads r 0
+    pub counting-start : (left heads : List ℕ) (r : Option ℕ) → DescendsAt m list (2 ^ 64) left heads → Largest (FollowsBelow m list (2 ^ 64)) r → Counting m list row left heads r 0
     counting-start left heads r at largest = record {
       bound = 2 ^ 64;
-      ahead = ahead-start left heads r at largest;
+      ahead = record { at = at; largest = largest };
       seen = [];
       seen-are = record { ascends = ascending-none; members = λ c. ((λ h. absurd (has-none h)), λ p. absurd (omega (arith, follows-in-64-bits m most law list c (p .0 .0), p .1))) };
       number = refl;

@@ -19,7 +19,7 @@ use Rattle.book.specs.Meaning.{Meaning, Lawful, FollowsFromOne}
 use Rattle.table.specs.Checks.{Placing}
 use Rattle.table.specs.Descent.{FollowsBelow, Comes, Largest, DescendsAt}
 use Rattle.table.proofs.Descents.{follows-in-64-bits}
-use Rattle.table.proofs.Entries.{Ahead, ahead-start, from-next}
+use Rattle.table.proofs.Entries.{Ahead, from-next}
 
 -- The cells from `top` on have what moved up of the row `kept` and what follows from the bound on; the first `below`
 -- cells have the rest of the row; and between them is room for those of `coming` that are still to come.
@@ -47,7 +47,7 @@ module _ (m : Meaning) (most : ℕ) (law : Lawful m most) (list kept coming : Li
   below-in bound = kept-by (λ x. ltb x bound) coming
 
   pub merging-start : (cells left heads : List ℕ) (below : ℕ) (r : Option ℕ) → kept ≡ take below cells → length cells ≡ below + length coming
-      → DescendsAt m list (2 ^ 64) left heads → Largest (FollowsFromOne m list) r → Merging m list kept coming cells below (length cells) left heads r
+      → DescendsAt m list (2 ^ 64) left heads → Largest (FollowsBelow m list (2 ^ 64)) r → Merging m list kept coming cells below (length cells) left heads r
   merging-start cells left heads below r row long at largest =
       let none : drop (length cells) cells ≡ [] = drop-all (length cells) cells (omega arith) in
       let nothing : (x : ℕ) → Has (drop (length cells) cells) x → ⊥ = λ x h. has-none (subst (λ l. Has l x) none h) in
@@ -56,7 +56,7 @@ module _ (m : Meaning) (most : ℕ) (law : Lawful m most) (list kept coming : Li
       (λ x h. below-bound coming (2 ^ 64) (comes .ascends) .members x .1 (h, follows-in-64-bits m most law list x (comes .members x .0 h .0))) in
       record {
         bound = 2 ^ 64;
-        ahead = ahead-start m most law list left heads r at largest;
+        ahead = record { at = at; largest = largest };
         moved = [];
         row = row ∙ sym (append-nil (take below cells));
         within = omega arith;

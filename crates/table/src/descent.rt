@@ -2,7 +2,6 @@
 ghost use mathlib.Core.Path.{_≡_};
 ghost use Prim.Native.Nat.{_+_, _-_, _≤_, _<_, _^_};
 ghost use lib.ListN.{length, getD};
-ghost use Rattle.book.specs.Meaning.{FollowsFromOne};
 ghost use Rattle.table.specs.Descent.{DescendsAt, FollowsBelow, Largest, LargestHead};
 use book::Book;
 
@@ -14,11 +13,11 @@ pub(crate) struct Descent {
 }
 
 impl Descent {
-    // The descent before its first code, and the largest code that follows from one of the list.
+    // The descent before its first code, and the largest code that follows from one of the list: all have 64 bits.
     pub(crate) fn start<B: Book>(book: &B, list: &[u64]) -> (Descent, Option<u64>)
         requires { ⌜ length (now list) ≤ 256 ⌝ }
         ensures at { λ r. ⌜ DescendsAt (meaning (now (book .entry))) (now (list .entry)) (2 ^ 64) (r .0 .left) (r .0 .heads) ⌝ }
-        ensures largest { λ r. ⌜ Largest (FollowsFromOne (meaning (now (book .entry))) (now (list .entry))) (r .1) ⌝ }
+        ensures largest { λ r. ⌜ Largest (FollowsBelow (meaning (now (book .entry))) (now (list .entry)) (2 ^ 64)) (r .1) ⌝ }
     {
         let descent = Descent::above_all(book, list);
         let largest = descent.largest_head(list.len());
