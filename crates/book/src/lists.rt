@@ -6,7 +6,7 @@ use crate::Book;
 
 // The place of the first code that the book does not know, or none where it knows them all.
 pub fn first_unknown<B: Book>(book: &B, facts: &[u64]) -> Option<usize>
-    ensures { FirstUnknown (meaning book.now) facts.now result }
+    ensures { FirstUnknown (B.meaning book.now) facts.now result }
 {
     for (i, fact) in facts.iter().enumerate() {
         if !book.knows(*fact) {
@@ -20,10 +20,10 @@ pub fn first_unknown<B: Book>(book: &B, facts: &[u64]) -> Option<usize>
 // The contract says too, of every book, that a clash is symmetric, that what clashes with a consequence clashes
 // with its cause, and that where none is found nothing that follows from the facts clashes with `fact`.
 pub fn first_against<B: Book>(book: &B, facts: &[u64], fact: u64) -> Option<usize>
-    ensures first { FirstAgainst (meaning book.now) facts.now (length facts.now) fact result }
-    ensures symmetric { ClashIsSymmetric (meaning book.now) }
-    ensures causes_clash { CausesClash (meaning book.now) }
-    ensures consequences { result ≡ None → ConsequencesDoNotClashWith (meaning book.now) facts.now fact }
+    ensures first { FirstAgainst (B.meaning book.now) facts.now (length facts.now) fact result }
+    ensures symmetric { ClashIsSymmetric (B.meaning book.now) }
+    ensures causes_clash { CausesClash (B.meaning book.now) }
+    ensures consequences { result ≡ None → ConsequencesDoNotClashWith (B.meaning book.now) facts.now fact }
 {
     against(book, facts, facts.len(), fact)
 }
@@ -32,10 +32,10 @@ pub fn first_against<B: Book>(book: &B, facts: &[u64], fact: u64) -> Option<usiz
 // The contract says too, of every book, that known facts contradict each other, so that no world holds them all,
 // exactly where two are found, and that where none are found their consequences do not clash among themselves.
 pub fn first_clash<B: Book>(book: &B, facts: &[u64]) -> Option<(usize, usize)>
-    ensures first { FirstClash (meaning book.now) facts.now result }
-    ensures no_world { TellsContradiction (meaning book.now) facts.now result }
-    ensures some_clash { ContradictionIsClash (meaning book.now) facts.now }
-    ensures consequences { result ≡ None → ConsequencesDoNotClash (meaning book.now) facts.now }
+    ensures first { FirstClash (B.meaning book.now) facts.now result }
+    ensures no_world { TellsContradiction (B.meaning book.now) facts.now result }
+    ensures some_clash { ContradictionIsClash (B.meaning book.now) facts.now }
+    ensures consequences { result ≡ None → ConsequencesDoNotClash (B.meaning book.now) facts.now }
 {
     clash_among(book, facts)
 }
@@ -43,7 +43,7 @@ pub fn first_clash<B: Book>(book: &B, facts: &[u64]) -> Option<(usize, usize)>
 // The place of the first fact before place `end` that clashes with `fact`.
 fn against<B: Book>(book: &B, facts: &[u64], end: usize, fact: u64) -> Option<usize>
     requires { end ≤ length facts.now }
-    ensures { FirstAgainst (meaning book.now) facts.now end fact result }
+    ensures { FirstAgainst (B.meaning book.now) facts.now end fact result }
 {
     for i in 0..end {
         if book.clash(facts[i], fact) {
@@ -55,7 +55,7 @@ fn against<B: Book>(book: &B, facts: &[u64], end: usize, fact: u64) -> Option<us
 
 // The places of the first two facts that clash.
 fn clash_among<B: Book>(book: &B, facts: &[u64]) -> Option<(usize, usize)>
-    ensures { FirstClash (meaning book.now) facts.now result }
+    ensures { FirstClash (B.meaning book.now) facts.now result }
 {
     for j in 0..facts.len() {
         if let Some(i) = against(book, facts, j + 1, facts[j]) {

@@ -1,4 +1,5 @@
 // What the program prints, as values. A call answers an error where memory does not suffice.
+#![tactic(auto)]
 ghost use Rattle.std.specs.Prelude.{◌≡◌, IfOk, string_bytes};
 ghost use Rattle.console.specs.Lines.{added_text, listing_text, clash_text};
 
@@ -22,7 +23,7 @@ pub fn added_line(heap: Global, answer: Result<usize, Refusal>) -> Result<String
 
 // What follows from the fact, each on a line in ascending order of codes, and how many follow.
 pub fn following_lines<B: Book>(heap: Global, book: &B, fact: u64) -> Result<String, fmt::Error>
-    ensures { IfOk result (λ s. string_bytes s ≡ listing_text ((meaning book.now).consequences fact)) }
+    ensures { IfOk result (λ s. string_bytes s ≡ listing_text ((B.meaning book.now).consequences fact)) }
 {
     let mut out = String::new(heap);
     let mut k = 0;
@@ -41,7 +42,7 @@ pub fn clash_line<B: Book>(
     first: u64,
     second: u64,
 ) -> Result<String, AllocError>
-    ensures { IfOk result (λ s. string_bytes s ≡ clash_text first second ((meaning book.now).clash first second)) }
+    ensures { IfOk result (λ s. string_bytes s ≡ clash_text first second ((B.meaning book.now).clash first second)) }
 {
     if book.clash(first, second) {
         format!(in heap; "{first} and {second} clash")

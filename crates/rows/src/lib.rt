@@ -1,4 +1,6 @@
 // Ascending rows of numbers in a slice: finding one, counting and keeping those that pass a test.
+#![tactic(auto)]
+
 ghost use Rattle.std.specs.Prelude.{◌≡◌, ℕ, ◌-◌, ◌<◌, ◌≤◌, Bool, ◌++◌, length, take, replicate, filter, MatchResult, slice_index};
 ghost use Rattle.rows.specs.Rows.{Ascending, Placed};
 
@@ -30,7 +32,7 @@ pub trait Test {
 
 // How many of the row pass the test.
 pub fn count<T: Test>(test: &T, row: &[u64]) -> usize
-    ensures { result ≡ length (filter (T.Test.test test.now) row.now) }
+    ensures { result ≡ length (filter (T.test test.now) row.now) }
 {
     count_before(test, row, row.len())
 }
@@ -38,8 +40,8 @@ pub fn count<T: Test>(test: &T, row: &[u64]) -> usize
 // How many of the first `end` pass the test.
 fn count_before<T: Test>(test: &T, row: &[u64], end: usize) -> usize
     requires { end ≤ length row.now }
-    ensures part { result ≡ length (filter (T.Test.test test.now) (take end row.now)) }
-    ensures whole { end ≡ length row.now → result ≡ length (filter (T.Test.test test.now) row.now) }
+    ensures part { result ≡ length (filter (T.test test.now) (take end row.now)) }
+    ensures whole { end ≡ length row.now → result ≡ length (filter (T.test test.now) row.now) }
 {
     let mut passing = 0;
     for i in 0..end {
@@ -52,8 +54,8 @@ fn count_before<T: Test>(test: &T, row: &[u64], end: usize) -> usize
 
 // Moves what passes to the front, in its order, clears the places behind it, and answers how many pass.
 pub fn keep<T: Test>(test: &T, row: &mut [u64]) -> usize
-    ensures number { result ≡ length (filter (T.Test.test test.now) row.old) }
-    ensures kept { row.new ≡ filter (T.Test.test test.now) row.old ++ replicate (length row.old - result) 0 }
+    ensures number { result ≡ length (filter (T.test test.now) row.old) }
+    ensures kept { row.new ≡ filter (T.test test.now) row.old ++ replicate (length row.old - result) 0 }
 {
     let passing = gather(test, row);
     clear(row, passing);
@@ -63,8 +65,8 @@ pub fn keep<T: Test>(test: &T, row: &mut [u64]) -> usize
 // Moves what passes to the front, in its order.
 fn gather<T: Test>(test: &T, row: &mut [u64]) -> usize
     ensures within { result ≤ length row.old }
-    ensures number { result ≡ length (filter (T.Test.test test.now) row.old) }
-    ensures front { take result row.new ≡ filter (T.Test.test test.now) row.old }
+    ensures number { result ≡ length (filter (T.test test.now) row.old) }
+    ensures front { take result row.new ≡ filter (T.test test.now) row.old }
 {
     let mut passing = 0;
     for i in 0..row.len() {

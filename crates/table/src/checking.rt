@@ -9,7 +9,7 @@ use book::{Book, first_clash, first_unknown};
 
 // At most 256 codes, all known.
 pub(crate) fn check_list<B: Book>(book: &B, list: &[u64]) -> Result<(), Refusal>
-    ensures { MatchResult result (λ _. ShortAndKnown (meaning book.now) list.now) (ListRefused (meaning book.now) list.now) }
+    ensures { MatchResult result (λ _. ShortAndKnown (B.meaning book.now) list.now) (ListRefused (B.meaning book.now) list.now) }
 {
     if list.len() > LIST_LIMIT {
         return Err(Refusal::TooLong(list.len()));
@@ -22,8 +22,8 @@ pub(crate) fn check_list<B: Book>(book: &B, list: &[u64]) -> Result<(), Refusal>
 
 // No two facts clash, and none clashes with itself.
 pub(crate) fn check_clash<B: Book>(book: &B, list: &[u64]) -> Result<(), Refusal>
-    requires { ShortAndKnown (meaning book.now) list.now }
-    ensures { MatchResult result (λ _. NothingClashes (meaning book.now) list.now) (ClashRefused (meaning book.now) list.now) }
+    requires { ShortAndKnown (B.meaning book.now) list.now }
+    ensures { MatchResult result (λ _. NothingClashes (B.meaning book.now) list.now) (ClashRefused (B.meaning book.now) list.now) }
 {
     match first_clash(book, list) {
         Some(places) => Err(Refusal::Clash(places)),

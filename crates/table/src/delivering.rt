@@ -33,7 +33,7 @@ impl<'a, 'b, B: Book> Test for Compatible<'a, 'b, B> {
 
 // Whether the code clashes with none of the list.
 fn clashes_with_none<B: Book>(book: &B, list: &[u64], c: u64) -> bool
-    ensures { result ≡ stays (meaning book.now) list.now c }
+    ensures { result ≡ stays (B.meaning book.now) list.now c }
 {
     first_against(book, list, c).is_none()
 }
@@ -42,13 +42,13 @@ impl<'a> Table<'a> {
     // Delivers the facts of the list: everything that follows from one of them is held then, and each earlier fact
     // that clashes with none of them stays. Answers how many facts are gone and how many have come.
     pub fn deliver<B: Book>(&mut self, book: &B, list: &[u64]) -> Result<(usize, usize), Refusal>
-        ensures facts { Delivers (meaning book.now) (used (cells_of self.old)) list.now (facts_of self.old) (facts_of self.new) result }
+        ensures facts { Delivers (B.meaning book.now) (used (cells_of self.old)) list.now (facts_of self.old) (facts_of self.new) result }
         ensures cells { cells_of self.new ≡ laid (facts_of self.new) (cells_of self.old) }
         ensures refusal { OnErr result (self.new ≡ self.old) }
         ensures few { IfOk result (λ counts. counts.1 ≤ length list.now * most) }
-        ensures unknown_stay { UnknownStay (meaning book.now) (facts_of self.old) (facts_of self.new) }
-        ensures by_worlds { DeliveryByWorlds (meaning book.now) list.now (facts_of self.old) (facts_of self.new) result }
-        ensures some_world { SomeWorldHoldsExactly (meaning book.now) (facts_of self.old) → SomeWorldHoldsExactly (meaning book.now) (facts_of self.new) }
+        ensures unknown_stay { UnknownStay (B.meaning book.now) (facts_of self.old) (facts_of self.new) }
+        ensures by_worlds { DeliveryByWorlds (B.meaning book.now) list.now (facts_of self.old) (facts_of self.new) result }
+        ensures some_world { SomeWorldHoldsExactly (B.meaning book.now) (facts_of self.old) → SomeWorldHoldsExactly (B.meaning book.now) (facts_of self.new) }
         ensures named { self.new.cells.ghost_name ≡ self.old.cells.ghost_name }
     {
         self.take_in(book, list)
@@ -56,7 +56,7 @@ impl<'a> Table<'a> {
 
     // A delivery, without what the laws and the worlds say of it.
     fn take_in<B: Book>(&mut self, book: &B, list: &[u64]) -> Result<(usize, usize), Refusal>
-        ensures facts { Delivers (meaning book.now) (used (cells_of self.old)) list.now (facts_of self.old) (facts_of self.new) result }
+        ensures facts { Delivers (B.meaning book.now) (used (cells_of self.old)) list.now (facts_of self.old) (facts_of self.new) result }
         ensures cells { cells_of self.new ≡ laid (facts_of self.new) (cells_of self.old) }
         ensures refusal { OnErr result (self.new ≡ self.old) }
         ensures named { self.new.cells.ghost_name ≡ self.old.cells.ghost_name }
@@ -68,7 +68,7 @@ impl<'a> Table<'a> {
 
     // Whether the delivery is refused, or how many facts would come.
     fn judge<B: Book>(&self, book: &B, list: &[u64]) -> Result<usize, Refusal>
-        ensures { MatchResult result (Enterable (meaning book.now) list.now (facts_of self.now) (used (cells_of self.now))) (DeliveryRefused (meaning book.now) (used (cells_of self.now)) list.now (facts_of self.now)) }
+        ensures { MatchResult result (Enterable (B.meaning book.now) list.now (facts_of self.now) (used (cells_of self.now))) (DeliveryRefused (B.meaning book.now) (used (cells_of self.now)) list.now (facts_of self.now)) }
     {
         check_list(book, list)?;
         check_clash(book, list)?;
@@ -81,7 +81,7 @@ impl<'a> Table<'a> {
     // stayed, the book is not asked which go.
     fn check_room<B: Book>(&self, book: &B, list: &[u64], come: usize) -> Result<(), Refusal>
         requires { come ≤ 256 * 65536 }
-        ensures { MatchResult result (λ _. length (filter (stays (meaning book.now) list.now) (facts_of self.now)) + come ≤ used (cells_of self.now)) (λ e. TooMany (length (filter (stays (meaning book.now) list.now) (facts_of self.now)) + come) (used (cells_of self.now)) e) }
+        ensures { MatchResult result (λ _. length (filter (stays (B.meaning book.now) list.now) (facts_of self.now)) + come ≤ used (cells_of self.now)) (λ e. TooMany (length (filter (stays (B.meaning book.now) list.now) (facts_of self.now)) + come) (used (cells_of self.now)) e) }
     {
         let size = self.cells.len().min(CELL_LIMIT);
         if self.held + come <= size {
@@ -96,8 +96,8 @@ impl<'a> Table<'a> {
 
     // Takes out what clashes and enters what follows, of which `come` codes come. Answers how many facts are gone.
     fn change<B: Book>(&mut self, book: &B, list: &[u64], come: usize) -> usize
-        requires { Enterable (meaning book.now) list.now (facts_of self.old) (used (cells_of self.old)) come }
-        ensures facts { DeliveryAccepted (meaning book.now) (used (cells_of self.old)) list.now (facts_of self.old) (facts_of self.new) result come }
+        requires { Enterable (B.meaning book.now) list.now (facts_of self.old) (used (cells_of self.old)) come }
+        ensures facts { DeliveryAccepted (B.meaning book.now) (used (cells_of self.old)) list.now (facts_of self.old) (facts_of self.new) result come }
         ensures cells { cells_of self.new ≡ laid (facts_of self.new) (cells_of self.old) }
         ensures named { self.new.cells.ghost_name ≡ self.old.cells.ghost_name }
     {

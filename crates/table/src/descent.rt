@@ -15,8 +15,8 @@ impl Descent {
     // The descent before its first code, and the largest code that follows from one of the list: all have 64 bits.
     pub(crate) fn start<B: Book>(book: &B, list: &[u64]) -> (Descent, Option<u64>)
         requires { length list.now ≤ 256 }
-        ensures at { DescendsAt (meaning book.now) list.now (2 ^ 64) result.0.left result.0.heads }
-        ensures largest { Largest (FollowsBelow (meaning book.now) list.now (2 ^ 64)) result.1 }
+        ensures at { DescendsAt (B.meaning book.now) list.now (2 ^ 64) result.0.left result.0.heads }
+        ensures largest { Largest (FollowsBelow (B.meaning book.now) list.now (2 ^ 64)) result.1 }
     {
         let descent = Descent::above_all(book, list);
         let largest = descent.largest_head(list.len());
@@ -26,9 +26,9 @@ impl Descent {
     // The largest code below `code` that follows from one of the list.
     pub(crate) fn advance<B: Book>(&mut self, book: &B, list: &[u64], code: u64) -> Option<u64>
         requires short { length list.now ≤ 256 }
-        requires at { DescendsAt (meaning book.now) list.now (code + 1) self.old.left self.old.heads }
-        ensures at { DescendsAt (meaning book.now) list.now code self.new.left self.new.heads }
-        ensures largest { Largest (FollowsBelow (meaning book.now) list.now code) result }
+        requires at { DescendsAt (B.meaning book.now) list.now (code + 1) self.old.left self.old.heads }
+        ensures at { DescendsAt (B.meaning book.now) list.now code self.new.left self.new.heads }
+        ensures largest { Largest (FollowsBelow (B.meaning book.now) list.now code) result }
     {
         self.pass(book, list, code);
         self.largest_head(list.len())
@@ -37,7 +37,7 @@ impl Descent {
     // All consequences are still to come.
     fn above_all<B: Book>(book: &B, list: &[u64]) -> Descent
         requires { length list.now ≤ 256 }
-        ensures { DescendsAt (meaning book.now) list.now (2 ^ 64) result.left result.heads }
+        ensures { DescendsAt (B.meaning book.now) list.now (2 ^ 64) result.left result.heads }
     {
         let mut left = [0; 256];
         let mut heads = [0; 256];
@@ -67,8 +67,8 @@ impl Descent {
     // Leaves `code` behind: what was still to come was at most `code`, and is below it now.
     fn pass<B: Book>(&mut self, book: &B, list: &[u64], code: u64)
         requires short { length list.now ≤ 256 }
-        requires at { DescendsAt (meaning book.now) list.now (code + 1) self.old.left self.old.heads }
-        ensures { DescendsAt (meaning book.now) list.now code self.new.left self.new.heads }
+        requires at { DescendsAt (B.meaning book.now) list.now (code + 1) self.old.left self.old.heads }
+        ensures { DescendsAt (B.meaning book.now) list.now code self.new.left self.new.heads }
     {
         for j in 0..list.len() {
             if self.left[j] > 0 && self.heads[j] == code {
@@ -82,7 +82,7 @@ impl Descent {
 
 // The largest of the first `count` consequences of the fact.
 fn head<B: Book>(book: &B, fact: u64, count: usize) -> u64
-    ensures { 0 < count → result ≡ slice_index ((meaning book.now).consequences fact) (count - 1) }
+    ensures { 0 < count → result ≡ slice_index ((B.meaning book.now).consequences fact) (count - 1) }
 {
     if count == 0 {
         return 0;

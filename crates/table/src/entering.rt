@@ -14,7 +14,7 @@ use rows::find;
 pub(crate) fn coming<B: Book>(book: &B, list: &[u64], row: &[u64]) -> usize
     requires short { length list.now ≤ 256 }
     requires ascends { Ascending row.now }
-    ensures number { Count (Comes (meaning book.now) list.now row.now) result }
+    ensures number { Count (Comes (B.meaning book.now) list.now row.now) result }
     ensures small { result ≤ 256 * 65536 }
 {
     let (mut descent, mut next) = Descent::start(book, list);
@@ -34,8 +34,8 @@ pub(crate) fn enter<B: Book>(book: &B, list: &[u64], cells: &mut [u64], kept: us
     requires short { length list.now ≤ 256 }
     requires within { kept ≤ length cells.old }
     requires ascends { Ascending (take kept cells.old) }
-    requires room { Count (Comes (meaning book.now) list.now (take kept cells.old)) (length cells.old - kept) }
-    ensures { RowOf (λ c. FollowsFromOne (meaning book.now) list.now c ⊎ Has (take kept cells.old) c) cells.new }
+    requires room { Count (Comes (B.meaning book.now) list.now (take kept cells.old)) (length cells.old - kept) }
+    ensures { RowOf (λ c. FollowsFromOne (B.meaning book.now) list.now c ⊎ Has (take kept cells.old) c) cells.new }
 {
     let (mut descent, mut next) = Descent::start(book, list);
     let mut below = kept;

@@ -36,7 +36,7 @@ pub enum Answer {
 impl<'a> Table<'a> {
     // Carries out one call.
     fn carry_out<B: Book>(&mut self, book: &B, call: Call<'_>) -> Answer
-        ensures facts { CarriedOut (meaning book.now) (used (cells_of self.old)) (facts_of self.old) call.entry (facts_of self.new) result }
+        ensures facts { CarriedOut (B.meaning book.now) (used (cells_of self.old)) (facts_of self.old) call.entry (facts_of self.new) result }
         ensures cells { cells_of self.new ≡ laid (facts_of self.new) (cells_of self.old) }
         ensures named { self.new.cells.ghost_name ≡ self.old.cells.ghost_name }
     {
@@ -58,7 +58,7 @@ pub fn replay<'a, B: Book>(
     calls: &[Call<'_>],
     answers: &mut [Option<Answer>],
 ) -> Table<'a>
-    ensures replayed { Replayed (meaning book.now) cells.old (cells_of result) (facts_of result) calls.now answers.old answers.new }
+    ensures replayed { Replayed (B.meaning book.now) cells.old (cells_of result) (facts_of result) calls.now answers.old answers.new }
     ensures named { result.cells.ghost_name ≡ cells.entry.ghost_name }
 {
     replay_all(book, cells, calls, answers)
@@ -71,7 +71,7 @@ fn replay_all<'a, B: Book>(
     calls: &[Call<'_>],
     answers: &mut [Option<Answer>],
 ) -> Table<'a>
-    ensures replayed { Replayed (meaning book.now) cells.old (cells_of result) (facts_of result) calls.now answers.old answers.new }
+    ensures replayed { Replayed (B.meaning book.now) cells.old (cells_of result) (facts_of result) calls.now answers.old answers.new }
     ensures named { result.cells.ghost_name ≡ cells.entry.ghost_name }
 {
     let mut table = Table::over(cells);

@@ -32,8 +32,8 @@ pub(crate) fn enter_all<B: Book>(
     requires fits { kept + come ≤ used cells.old }
     requires laid { cells.old ≡ laid (take kept cells.old) cells.old }
     requires ascends { Ascending (take kept cells.old) }
-    requires coming { Count (Comes (meaning book.now) list.now (take kept cells.old)) come }
-    ensures facts { RowOf (λ c. FollowsFromOne (meaning book.now) list.now c ⊎ Has (take kept cells.old) c) (take (kept + come) cells.new) }
+    requires coming { Count (Comes (B.meaning book.now) list.now (take kept cells.old)) come }
+    ensures facts { RowOf (λ c. FollowsFromOne (B.meaning book.now) list.now c ⊎ Has (take kept cells.old) c) (take (kept + come) cells.new) }
     ensures cells { cells.new ≡ laid (take (kept + come) cells.new) cells.old }
 {
     enter(book, list, &mut cells[0..kept + come], kept);

@@ -32,14 +32,14 @@ impl<'a, 'b, B: Book> Test for Untouched<'a, 'b, B> {
 
 // Whether none of the list follows from the code.
 fn leads_to_none<B: Book>(book: &B, list: &[u64], c: u64) -> bool
-    ensures { result ≡ untouched (meaning book.now) list.now c }
+    ensures { result ≡ untouched (B.meaning book.now) list.now c }
 {
     first_following(book, list, c).is_none()
 }
 
 // The place of the first of the list that follows from the code.
 fn first_following<B: Book>(book: &B, list: &[u64], c: u64) -> Option<usize>
-    ensures { FirstFollowing (meaning book.now) list.now c result }
+    ensures { FirstFollowing (B.meaning book.now) list.now c result }
 {
     for i in 0..list.len() {
         if leads_to(book, c, list[i]) {
@@ -51,7 +51,7 @@ fn first_following<B: Book>(book: &B, list: &[u64], c: u64) -> Option<usize>
 
 // Whether the fact follows from the code.
 fn leads_to<B: Book>(book: &B, c: u64, fact: u64) -> bool
-    ensures { result ≡ leads (meaning book.now) c fact }
+    ensures { result ≡ leads (B.meaning book.now) c fact }
 {
     book.follows(c, fact)
 }
@@ -60,12 +60,12 @@ impl<'a> Table<'a> {
     // Withdraws the facts of the list: the earlier facts stay from which none of them follows.
     // Answers how many facts are gone, and 0.
     pub fn withdraw<B: Book>(&mut self, book: &B, list: &[u64]) -> Result<(usize, usize), Refusal>
-        ensures facts { Withdraws (meaning book.now) list.now (facts_of self.old) (facts_of self.new) result }
+        ensures facts { Withdraws (B.meaning book.now) list.now (facts_of self.old) (facts_of self.new) result }
         ensures cells { cells_of self.new ≡ laid (facts_of self.new) (cells_of self.old) }
         ensures refusal { OnErr result (self.new ≡ self.old) }
-        ensures unknown_stay { UnknownStay (meaning book.now) (facts_of self.old) (facts_of self.new) }
-        ensures by_worlds { WithdrawalByWorlds (meaning book.now) list.now (facts_of self.old) (facts_of self.new) result }
-        ensures some_world { SomeWorldHoldsExactly (meaning book.now) (facts_of self.old) → SomeWorldHoldsExactly (meaning book.now) (facts_of self.new) }
+        ensures unknown_stay { UnknownStay (B.meaning book.now) (facts_of self.old) (facts_of self.new) }
+        ensures by_worlds { WithdrawalByWorlds (B.meaning book.now) list.now (facts_of self.old) (facts_of self.new) result }
+        ensures some_world { SomeWorldHoldsExactly (B.meaning book.now) (facts_of self.old) → SomeWorldHoldsExactly (B.meaning book.now) (facts_of self.new) }
         ensures named { self.new.cells.ghost_name ≡ self.old.cells.ghost_name }
     {
         self.take_out(book, list)
@@ -73,7 +73,7 @@ impl<'a> Table<'a> {
 
     // A withdrawal, without what the laws and the worlds say of it.
     fn take_out<B: Book>(&mut self, book: &B, list: &[u64]) -> Result<(usize, usize), Refusal>
-        ensures facts { Withdraws (meaning book.now) list.now (facts_of self.old) (facts_of self.new) result }
+        ensures facts { Withdraws (B.meaning book.now) list.now (facts_of self.old) (facts_of self.new) result }
         ensures cells { cells_of self.new ≡ laid (facts_of self.new) (cells_of self.old) }
         ensures refusal { OnErr result (self.new ≡ self.old) }
         ensures named { self.new.cells.ghost_name ≡ self.old.cells.ghost_name }
@@ -85,7 +85,7 @@ impl<'a> Table<'a> {
 
     // Takes out the facts from which one of the list follows. Answers how many are gone.
     fn release<B: Book>(&mut self, book: &B, list: &[u64]) -> usize
-        ensures facts { RowOf (AfterWithdrawal (meaning book.now) list.now (facts_of self.old)) (facts_of self.new) }
+        ensures facts { RowOf (AfterWithdrawal (B.meaning book.now) list.now (facts_of self.old)) (facts_of self.new) }
         ensures cells { cells_of self.new ≡ laid (facts_of self.new) (cells_of self.old) }
         ensures gone { Count (OnlyIn (facts_of self.old) (facts_of self.new)) result }
         ensures named { self.new.cells.ghost_name ≡ self.old.cells.ghost_name }

@@ -1,4 +1,5 @@
 // Examples with their sums done by hand.
+#![tactic(auto)]
 #[cfg(test)]
 mod lines;
 #[cfg(test)]

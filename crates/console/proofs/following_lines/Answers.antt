@@ -3,8 +3,8 @@ use Rattle.rows.proofs.Members.{nth_some, nth_none}
 use Rattle.console.proofs.Listing.{line_more, listing_all}
 use Rattle.console.proofs.following_lines.Goals as goal
 
-pub overflow-add-k : goal.overflow-add-k
-overflow-add-k g c =
+pub overflow_add-k : goal.overflow_add-k
+overflow_add-k g c =
     let law = g.met.B.Book.lawful c.args.book.now in
     let cs = (g.B.Book.meaning c.args.book.now).consequences c.args.fact in
     omega (arith, (nth_some cs c.loop-code.k c.in-Some.ensures).0, law.at_most_follow c.args.fact, law.most_is_small)
@@ -20,11 +20,11 @@ loop-code-preserved g c =
     let here = nth_some cs c.loop-code.k c.in-Some.ensures in
     let old = string_bytes c.loop-code.out in
     let new = string_bytes c.writeln.new.self in
-    (line_more cs c.loop-code.k c.in-Some.code old new here.0 here.1 c.loop-code.invariant.0 c.in-ok-writeln.ensures.bytes, omega (arith, here.0))
+    (line_more cs c.loop-code.k c.in-Some.code old new here.0 here.1 c.loop-code.invariant.0 c.in_ok-writeln.ensures.bytes, omega (arith, here.0))
 
 pub returns : goal.returns
 returns g c =
     let cs = (g.B.Book.meaning c.args.book.now).consequences c.args.fact in
     let old = string_bytes c.loop-code.out in
     let new = string_bytes c.write.new.self in
-    listing_all cs c.loop-code.k old new c.loop-code.invariant.1 (nth_none cs c.loop-code.k c.in-default.ensures) c.loop-code.invariant.0 c.in-ok-write.ensures.bytes
+    listing_all cs c.loop-code.k old new c.loop-code.invariant.1 (nth_none cs c.loop-code.k c.in-default.ensures) c.loop-code.invariant.0 c.in_ok-write.ensures.bytes

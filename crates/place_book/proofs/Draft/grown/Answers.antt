@@ -4,8 +4,8 @@ use Rattle.place_book.specs.Places.{ParentsAreSmaller}
 use Rattle.place_book.specs.Tree.{smaller_push}
 use Rattle.place_book.proofs.Draft.grown.Goals as goal
 
-pub invariant-of-result : goal.invariant-of-result
-invariant-of-result c =
+pub invariant_of-result : goal.invariant_of-result
+invariant_of-result c =
     let d = c.args.self.now in
     let long : length d.parents ≡ 256 = search rules in
     let pushed = take_more_set d.parents d.count c.args.parent (omega (arith, c.requires.room, length-take d.count d.parents)) in

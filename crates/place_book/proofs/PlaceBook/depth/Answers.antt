@@ -5,8 +5,8 @@ use Rattle.place_book.specs.Around.{around_few, around_length, around_one}
 use Rattle.place_book.specs.View.{book_places}
 use Rattle.place_book.proofs.PlaceBook.depth.Goals as goal
 
-pub overflow-add-count : goal.overflow-add-count
-overflow-add-count c =
+pub overflow_add-count : goal.overflow_add-count
+overflow_add-count c =
     let b = c.args.self.now in
     omega (arith, c.loop-at.invariant.1, around_few (book_places b) c.args.place, few_places b.count b.parents b.few)
 

@@ -8,9 +8,9 @@ use Rattle.table.proofs.Table.carry_out.Goals as goal
 pub returns-in-CountHeld : goal.returns-in-CountHeld
 returns-in-CountHeld g c =
     let t = c.args.self.now in
-    let answer = Number c.count-held.result in
+    let answer = Number c.count_held.result in
     record {
-      facts = subst (λ call. CarriedOut (g.B.Book.meaning c.args.book.now) (used (cells_of t)) (facts_of t) call (facts_of t) answer) (sym c.in-CountHeld.is) (ap Number c.count-held.ensures, refl);
+      facts = subst (λ call. CarriedOut (g.B.Book.meaning c.args.book.now) (used (cells_of t)) (facts_of t) call (facts_of t) answer) (sym c.in-CountHeld.is) (ap Number c.count_held.ensures, refl);
       cells = t.layout;
       named = refl;
     }
@@ -18,9 +18,9 @@ returns-in-CountHeld g c =
 pub returns-in-IsHeld : goal.returns-in-IsHeld
 returns-in-IsHeld g c =
     let t = c.args.self.now in
-    let answer = Held c.is-held.result in
+    let answer = Held c.is_held.result in
     record {
-      facts = subst (λ call. CarriedOut (g.B.Book.meaning c.args.book.now) (used (cells_of t)) (facts_of t) call (facts_of t) answer) (sym c.in-IsHeld.is) ((c.is-held.result, refl, c.is-held.ensures), refl);
+      facts = subst (λ call. CarriedOut (g.B.Book.meaning c.args.book.now) (used (cells_of t)) (facts_of t) call (facts_of t) answer) (sym c.in-IsHeld.is) ((c.is_held.result, refl, c.is_held.ensures), refl);
       cells = t.layout;
       named = refl;
     }
@@ -28,9 +28,9 @@ returns-in-IsHeld g c =
 pub returns-in-NthHeld : goal.returns-in-NthHeld
 returns-in-NthHeld g c =
     let t = c.args.self.now in
-    let answer = Fact c.nth-held.result in
+    let answer = Fact c.nth_held.result in
     record {
-      facts = subst (λ call. CarriedOut (g.B.Book.meaning c.args.book.now) (used (cells_of t)) (facts_of t) call (facts_of t) answer) (sym c.in-NthHeld.is) (ap Fact c.nth-held.ensures.number, refl);
+      facts = subst (λ call. CarriedOut (g.B.Book.meaning c.args.book.now) (used (cells_of t)) (facts_of t) call (facts_of t) answer) (sym c.in-NthHeld.is) (ap Fact c.nth_held.ensures.number, refl);
       cells = t.layout;
       named = refl;
     }

@@ -11,8 +11,8 @@ returns-then-self-come g c =
     let p = stays (g.B.Book.meaning c.args.book.now) c.args.list.now in
     omega (arith, length-filter_both p (λ x. not (p x)) (λ _. refl) (facts_of t), length-take t.held (cells_of t), c.if-self-come.true, c.min-size.ensures)
 
-pub overflow-add-facts : goal.overflow-add-facts
-overflow-add-facts g c =
+pub overflow_add-facts : goal.overflow_add-facts
+overflow_add-facts g c =
     let t = c.args.self.now in
     let p = stays (g.B.Book.meaning c.args.book.now) c.args.list.now in
     let row = c.facts.result.now in

@@ -11,16 +11,16 @@ returns g c =
     let t = c.args.self.now in
     let list = c.args.list.now in
     let size = used (cells_of t) in
-    let new = facts_of c.take-in.new.self in
-    let r = c.take-in.result in
-    let done = c.take-in.ensures in
+    let new = facts_of c.take_in.new.self in
+    let r = c.take_in.result in
+    let done = c.take_in.ensures in
     record {
       facts = done.facts;
       cells = done.cells;
       refusal = done.refusal;
       few = few_come m g.B.Book.most law size list (facts_of t) new r done.facts;
       unknown_stay = unknown_stay m g.B.Book.most law size list (facts_of t) new r done.facts;
-      by-worlds = delivery_by_worlds m g.B.Book.most law size list (facts_of t) new r done.facts;
+      by_worlds = delivery_by_worlds m g.B.Book.most law size list (facts_of t) new r done.facts;
       some_world = delivery_keeps_a_world m g.B.Book.most law size list (facts_of t) new r done.facts;
       named = done.named;
     }

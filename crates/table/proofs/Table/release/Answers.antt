@@ -12,13 +12,13 @@ retain-kept-requires g c =
     let t = c.replace-cells.result in
     record { fits = t.fits; laid = t.layout }
 
-pub invariant-of-self : goal.invariant-of-self
-invariant-of-self g c =
+pub invariant_of-self : goal.invariant_of-self
+invariant_of-self g c =
     let t = c.replace-cells.result in
     (withdrawn t.cells.now t.held t.fits t.ascends (g.B.Book.meaning c.args.book.now) c.args.list.now c.retain-kept.new.cells c.retain-kept.result c.retain-kept.ensures.number c.retain-kept.ensures.cells).3
 
-pub overflow-sub-result : goal.overflow-sub-result
-overflow-sub-result g c =
+pub overflow_sub-result : goal.overflow_sub-result
+overflow_sub-result g c =
     let t = c.replace-cells.result in
     omega (arith, c.retain-kept.ensures.number, fewer_kept (untouched (g.B.Book.meaning c.args.book.now) c.args.list.now) t.cells.now t.held t.fits)
 

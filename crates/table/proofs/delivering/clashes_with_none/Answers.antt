@@ -7,6 +7,6 @@ pub returns : goal.returns
 returns g c =
     let m = g.B.Book.meaning c.args.book.now in
     let list = c.args.list.now in
-    same_from_decides c.is-none.result (stays m list c.args.c)
-    (against_tells m list c.args.c c.first-against.result c.is-none.result c.first-against.ensures.first c.is-none.ensures)
+    same_from_decides c.is_none.result (stays m list c.args.c)
+    (against_tells m list c.args.c c.first_against.result c.is_none.result c.first_against.ensures.first c.is_none.ensures)
     (stays_tells m list c.args.c)

@@ -3,10 +3,10 @@ use Rattle.std.proofs.lemmas.Bool.Decides.{not_from_Decides}
 use Rattle.rows.proofs.Ascents.{placed_tells}
 use Rattle.table.proofs.Entries.{counting_start, counting_old, counting_new, counting_all, counting_small, ahead_on, height_falls}
 use Rattle.table.proofs.entering.coming.Goals as goal
-use Rattle.table.proofs.entering.coming.Goals.{then-is-err, else-is-err}
+use Rattle.table.proofs.entering.coming.Goals.{then-is_err, else-is_err}
 
-pub overflow-add-come : goal.overflow-add-come
-overflow-add-come g c =
+pub overflow_add-come : goal.overflow_add-come
+overflow_add-come g c =
     omega (
       arith,
       counting_small (g.B.Book.meaning c.args.book.now) g.B.Book.most (g.met.B.Book.lawful c.args.book.now) c.args.list.now c.args.row.now
@@ -38,12 +38,12 @@ loop-next-preserved g c =
     let tells = placed_tells c.args.row.now c.in-Some.code c.find.result (c.find.ensures.placed c.requires.ascends) in
     let was = c.loop-next.descent in
     let now' = c.advance-next.new.self in
-    let test = c.is-err.ensures.negation in
-    elim c.if-is-err.branch [
-      | then-is-err w ↦ rw w.come-is (counting_new m g.B.Book.most law c.args.list.now c.args.row.now was.left was.heads now'.left now'.heads c.loop-next.next c.advance-next.result c.in-Some.code c.loop-next.come c.in-Some.is c.loop-next.invariant c.advance-next.ensures.at c.advance-next.ensures.largest
-          (not_from_Decides _ tells (test ∙ ap not w.if-is-err.true)))
-      | else-is-err w ↦ rw w.come-is (counting_old m g.B.Book.most law c.args.list.now c.args.row.now was.left was.heads now'.left now'.heads c.loop-next.next c.advance-next.result c.in-Some.code c.loop-next.come c.in-Some.is c.loop-next.invariant c.advance-next.ensures.at c.advance-next.ensures.largest
-          (tells.0 (test ∙ ap not w.if-is-err.false)))
+    let test = c.is_err.ensures.negation in
+    elim c.if-is_err.branch [
+      | then-is_err w ↦ rw w.come-is (counting_new m g.B.Book.most law c.args.list.now c.args.row.now was.left was.heads now'.left now'.heads c.loop-next.next c.advance-next.result c.in-Some.code c.loop-next.come c.in-Some.is c.loop-next.invariant c.advance-next.ensures.at c.advance-next.ensures.largest
+          (not_from_Decides _ tells (test ∙ ap not w.if-is_err.true)))
+      | else-is_err w ↦ rw w.come-is (counting_old m g.B.Book.most law c.args.list.now c.args.row.now was.left was.heads now'.left now'.heads c.loop-next.next c.advance-next.result c.in-Some.code c.loop-next.come c.in-Some.is c.loop-next.invariant c.advance-next.ensures.at c.advance-next.ensures.largest
+          (tells.0 (test ∙ ap not w.if-is_err.false)))
     ]
 
 pub returns : goal.returns

@@ -15,29 +15,29 @@ around-stay-requires c =
     let e : c.args.below - 0 ≡ c.args.below = omega arith in
     subst (λ n. Ascending (take n c.args.cells.now)) (sym e) c.requires.ascends
 
-pub overflow-sub-free : goal.overflow-sub-free
-overflow-sub-free c = above_within c.args.cells.now c.args.below c.args.top c.args.code c.around-stay.result.0 c.around-stay.result.1 c.requires.within c.requires.behind
+pub overflow_sub-free : goal.overflow_sub-free
+overflow_sub-free c = above_within c.args.cells.now c.args.below c.args.top c.args.code c.around-stay.result.0 c.around-stay.result.1 c.requires.within c.requires.behind
     (found c.args.cells.now c.args.below c.args.code c.around-stay.result.0 c.around-stay.result.1 c.around-stay.ensures)
 
-pub overflow-sub-free-2 : goal.overflow-sub-free-2
-overflow-sub-free-2 c = omega (arith, c.requires.behind)
+pub overflow_sub-free-2 : goal.overflow_sub-free-2
+overflow_sub-free-2 c = omega (arith, c.requires.behind)
 
-pub copy-within-requires : goal.copy-within-requires
-copy-within-requires c =
+pub copy_within-requires : goal.copy_within-requires
+copy_within-requires c =
     let h = above_within c.args.cells.now c.args.below c.args.top c.args.code c.around-stay.result.0 c.around-stay.result.1 c.requires.within c.requires.behind
     (found c.args.cells.now c.args.below c.args.code c.around-stay.result.0 c.around-stay.result.1 c.around-stay.ensures) in
     record { start-le-end = h; in_bounds = omega (arith, c.requires.within, c.requires.behind); dest-in-bounds = omega (arith, h, c.requires.within, c.requires.behind); not-exhausted = tt }
 
-pub overflow-sub-cells : goal.overflow-sub-cells
-overflow-sub-cells c =
+pub overflow_sub-cells : goal.overflow_sub-cells
+overflow_sub-cells c =
     omega (
       arith,
       free_some c.args.cells.now c.args.below c.args.top c.args.code c.around-stay.result.0 c.around-stay.result.1 c.requires.within c.requires.behind
           (found c.args.cells.now c.args.below c.args.code c.around-stay.result.0 c.around-stay.result.1 c.around-stay.ensures) c.requires.room,
     )
 
-pub overflow-sub-result : goal.overflow-sub-result
-overflow-sub-result c =
+pub overflow_sub-result : goal.overflow_sub-result
+overflow_sub-result c =
     omega (
       arith,
       free_some c.args.cells.now c.args.below c.args.top c.args.code c.around-stay.result.0 c.around-stay.result.1 c.requires.within c.requires.behind
@@ -50,6 +50,6 @@ returns c =
     let stay = c.around-stay.result.0 in
     let above = c.around-stay.result.1 in
     let free = c.args.top - (c.args.below - above) in
-    subst (λ t. Placing c.args.cells.now (set t (free - 1) c.args.code) c.args.below c.args.top c.args.code stay (free - 1)) (sym c.copy-within.ensures.after)
+    subst (λ t. Placing c.args.cells.now (set t (free - 1) c.args.code) c.args.below c.args.top c.args.code stay (free - 1)) (sym c.copy_within.ensures.after)
     (placing c.args.cells.now c.args.below c.args.top c.args.code stay above c.requires.within c.requires.behind a free refl
     (free_some c.args.cells.now c.args.below c.args.top c.args.code stay above c.requires.within c.requires.behind a c.requires.room))

@@ -13,17 +13,17 @@ loop-i-init g c =
 pub loop-i-preserved : goal.loop-i-preserved
 loop-i-preserved g c =
     let t = c.loop-i.table in
-    let t' = c.carry-out-answer.new.self in
+    let t' = c.carry_out-answer.new.self in
     let h = c.loop-i-test.true in
     let long = c.loop-i.auto.answers in (
-      replaying_more (g.B.Book.meaning c.args.book.now) (cells_of c.over-table.result) c.args.calls.now c.args.answers.now (cells_of t) (facts_of t) c.loop-i.answers c.if-i-answers.answers c.loop-i.i _ c.carry-out-answer.result (cells_of t') (facts_of t')
+      replaying_more (g.B.Book.meaning c.args.book.now) (cells_of c.over-table.result) c.args.calls.now c.args.answers.now (cells_of t) (facts_of t) c.loop-i.answers c.if-i-answers.answers c.loop-i.i _ c.carry_out-answer.result (cells_of t') (facts_of t')
           h (λ d. get_or_default c.args.calls.now c.loop-i.i d _ h)
           (elim c.if-i-answers.branch [
             | then-i-answers w ↦ inl (omega (arith, w.if-i-answers.true), w.answers-is)
             | else-i-answers w ↦ inr (omega (arith, w.if-i-answers.false), w.answers-is)
           ])
-          c.loop-i.invariant.0 c.carry-out-answer.ensures.facts c.carry-out-answer.ensures.cells,
-      c.carry-out-answer.ensures.named ∙ c.loop-i.invariant.1,
+          c.loop-i.invariant.0 c.carry_out-answer.ensures.facts c.carry_out-answer.ensures.cells,
+      c.carry_out-answer.ensures.named ∙ c.loop-i.invariant.1,
     )
 
 pub returns : goal.returns

@@ -7,6 +7,6 @@ pub returns : goal.returns
 returns g c =
     let m = g.B.Book.meaning c.args.book.now in
     let list = c.args.list.now in
-    same_from_decides c.is-none.result (untouched m list c.args.c)
-    (first_following_tells m list c.args.c c.first-following.result c.is-none.result c.first-following.ensures c.is-none.ensures)
+    same_from_decides c.is_none.result (untouched m list c.args.c)
+    (first_following_tells m list c.args.c c.first_following.result c.is_none.result c.first_following.ensures c.is_none.ensures)
     (untouched_tells m list c.args.c)

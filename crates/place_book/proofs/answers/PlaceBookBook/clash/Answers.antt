@@ -10,6 +10,6 @@ returns c =
     let b = c.args.self.now in
     let first = c.args.first in
     let second = c.args.second in
-    let r = c.facts-clash.result in
-    let same = same_from_decides r (clash (book_places b) first second) c.facts-clash.ensures (clash_tells (book_places b) b.smaller first second) in
-    record { tested = same; apart = c.facts-clash.ensures; worlds = clash_in_worlds (book_places b) b.smaller first second r same }
+    let r = c.facts_clash.result in
+    let same = same_from_decides r (clash (book_places b) first second) c.facts_clash.ensures (clash_tells (book_places b) b.smaller first second) in
+    record { tested = same; apart = c.facts_clash.ensures; worlds = clash_in_worlds (book_places b) b.smaller first second r same }

@@ -14,8 +14,8 @@ loop-j-preserved g c =
     let fact = get_or list j 0 in
     let cs = m.consequences fact in
     let inv = c.loop-j.invariant in
-    let count = c.count-following-count.result in
-    let all : count ≡ length cs = c.count-following-count.ensures in
+    let count = c.count_following-count.result in
+    let all : count ≡ length cs = c.count_following-count.ensures in
     let known : (k : ℕ) → k < length cs → get_or cs k 0 < 2 ^ 64 = λ k h. law.known_codes_fit (get_or cs k 0) (law.only_known_follow fact (get_or cs k 0) (has_get_or cs k 0 h)) in
     let here : CutAt cs (2 ^ 64) count c.head.result = subst (λ n. CutAt cs (2 ^ 64) n c.head.result) (sym all)
     (cut_above cs (2 ^ 64) c.head.result known (λ some. c.head.ensures (omega arith) ∙ ap (λ n. get_or cs (n - 1) 0) all)) in (

@@ -7,5 +7,5 @@ returns g c =
     record {
       at = c.pass.ensures;
       largest = largest_left (g.B.Book.meaning c.args.book.now) g.B.Book.most (g.met.B.Book.lawful c.args.book.now) c.args.list.now
-          c.args.code after.left after.heads c.largest-head.result c.pass.ensures c.largest-head.ensures;
+          c.args.code after.left after.heads c.largest_head.result c.pass.ensures c.largest_head.ensures;
     }

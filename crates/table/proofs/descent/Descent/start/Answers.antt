@@ -4,9 +4,9 @@ use Rattle.table.proofs.descent.Descent.start.Goals as goal
 
 pub returns : goal.returns
 returns g c =
-    let all = c.above-all-descent.result in
+    let all = c.above_all-descent.result in
     record {
-      at = c.above-all-descent.ensures;
+      at = c.above_all-descent.ensures;
       largest = largest_left (g.B.Book.meaning c.args.book.now) g.B.Book.most (g.met.B.Book.lawful c.args.book.now) c.args.list.now
-          (2 ^ 64) all.left all.heads c.largest-head-largest.result c.above-all-descent.ensures c.largest-head-largest.ensures;
+          (2 ^ 64) all.left all.heads c.largest_head-largest.result c.above_all-descent.ensures c.largest_head-largest.ensures;
     }
