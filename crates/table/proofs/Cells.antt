@@ -5,8 +5,10 @@ use Rattle.rows.specs.Rows.{Ascending}
 use Rattle.table.specs.Cells.{used, laid}
 
 -- what a table keeps of its cells: its ghost fields
-abbrev pub Kept : List ℕ → ℕ → Type 0
-Kept cells held = (held ≤ used cells) × (Ascending (take held cells) × ((cells ≡ laid (take held cells) cells) × Unit {0}))
+pub record Kept (cells : List ℕ) (held : ℕ) : Type 0 where
+  pub fits : held ≤ used cells
+  pub ascends : Ascending (take held cells)
+  pub layout : cells ≡ laid (take held cells) cells
 
 module _ (facts cells : List ℕ) (fits : length facts ≤ used cells) where
   abbrev zeros : List ℕ
@@ -37,7 +39,7 @@ module _ (facts cells : List ℕ) (fits : length facts ≤ used cells) where
       ap (λ n. others ++ (replicate (n - length others) 0 ++ drop n (laid facts cells))) used-laid ∙ ap (λ l. others ++ (replicate (used cells - length others) 0 ++ l)) rest
 
   pub kept_laid : Ascending facts → Kept (laid facts cells) (length facts)
-  kept_laid up = (omega (arith, used-laid), (subst Ascending (sym take-laid) up, (sym (laid-laid facts) ∙ ap (λ l. laid l (laid facts cells)) (sym take-laid), tt)))
+  kept_laid up = record { fits = omega (arith, used-laid); ascends = subst Ascending (sym take-laid) up; layout = sym (laid-laid facts) ∙ ap (λ l. laid l (laid facts cells)) (sym take-laid) }
 
 -- with other names for the cells and their number
 pub kept_at : (facts cells cells' : List ℕ) (n : ℕ) → cells' ≡ laid facts cells → n ≡ length facts → length facts ≤ used cells → Ascending facts → Kept cells' n

@@ -45,7 +45,7 @@ impl<'a> Table<'a> {
         ensures facts { Delivers (B.meaning book.now) (used (cells_of self.old)) list.now (facts_of self.old) (facts_of self.new) result }
         ensures cells { cells_of self.new ≡ laid (facts_of self.new) (cells_of self.old) }
         ensures refusal { OnErr result (self.new ≡ self.old) }
-        ensures few { IfOk result (λ counts. counts.1 ≤ length list.now * most) }
+        ensures few { IfOk result (λ counts. counts.1 ≤ length list.now * B.most) }
         ensures unknown_stay { UnknownStay (B.meaning book.now) (facts_of self.old) (facts_of self.new) }
         ensures by_worlds { DeliveryByWorlds (B.meaning book.now) list.now (facts_of self.old) (facts_of self.new) result }
         ensures some_world { SomeWorldHoldsExactly (B.meaning book.now) (facts_of self.old) → SomeWorldHoldsExactly (B.meaning book.now) (facts_of self.new) }

@@ -9,7 +9,7 @@ invariant_of-result c =
     let d = c.args.self.now in
     let long : length d.parents ≡ 256 = search rules in
     let pushed = take_more_set d.parents d.count c.args.parent (omega (arith, c.requires.room, length-take d.count d.parents)) in
-    (search rules, (search rules, (subst ParentsAreSmaller (sym pushed) (smaller_push _ c.args.parent d.smaller c.requires.stands), tt)))
+    record { plant = search rules; few = search rules; smaller = subst ParentsAreSmaller (sym pushed) (smaller_push _ c.args.parent d.smaller c.requires.stands) }
 
 pub returns : goal.returns
 returns c =

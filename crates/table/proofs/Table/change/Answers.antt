@@ -26,8 +26,9 @@ invariant_of-self g c =
     let list = c.args.list.now in
     let t = c.replace-cells.result in
     let can = subst (λ s. Enterable m list (facts_of s) (used (cells_of s)) c.args.come) (sym c.replace-cells.ensures.value) c.requires in
-    (entered t.cells.now t.held t.fits t.ascends m g.B.Book.most (g.met.B.Book.lawful c.args.book.now) list c.args.come can c.retain-kept.new.cells c.retain-kept.result c.retain-kept.ensures.number c.retain-kept.ensures.cells
-    c.enter_all.new.cells c.enter_all.auto.cells c.enter_all.ensures.facts c.enter_all.ensures.cells).2
+    let kept = (entered t.cells.now t.held t.fits t.ascends m g.B.Book.most (g.met.B.Book.lawful c.args.book.now) list c.args.come can c.retain-kept.new.cells c.retain-kept.result c.retain-kept.ensures.number c.retain-kept.ensures.cells
+    c.enter_all.new.cells c.enter_all.auto.cells c.enter_all.ensures.facts c.enter_all.ensures.cells).2 in
+    record { fits = kept.fits; ascends = kept.ascends; layout = kept.layout }
 
 pub overflow_sub-result : goal.overflow_sub-result
 overflow_sub-result g c =

@@ -13,7 +13,9 @@ loop-i-preserved c =
     ap (λ s. set s c.loop-i.i 0) c.loop-i.invariant ∙ fill_more c.loop-i.i 0 c.args.cells.now (search rules)
 
 pub invariant_of-result : goal.invariant_of-result
-invariant_of-result c = kept_at [] c.args.cells.now c.loop-i.cells 0 (cleared c.args.cells.now c.loop-i.cells c.loop-i.i (omega arith) c.loop-i.invariant) refl (omega arith) ascending_none
+invariant_of-result c =
+    let kept = kept_at [] c.args.cells.now c.loop-i.cells 0 (cleared c.args.cells.now c.loop-i.cells c.loop-i.i (omega arith) c.loop-i.invariant) refl (omega arith) ascending_none in
+    record { fits = kept.fits; ascends = kept.ascends; layout = kept.layout }
 
 pub returns : goal.returns
 returns c = record {

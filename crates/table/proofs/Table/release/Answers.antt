@@ -15,7 +15,8 @@ retain-kept-requires g c =
 pub invariant_of-self : goal.invariant_of-self
 invariant_of-self g c =
     let t = c.replace-cells.result in
-    (withdrawn t.cells.now t.held t.fits t.ascends (g.B.Book.meaning c.args.book.now) c.args.list.now c.retain-kept.new.cells c.retain-kept.result c.retain-kept.ensures.number c.retain-kept.ensures.cells).3
+    let kept = (withdrawn t.cells.now t.held t.fits t.ascends (g.B.Book.meaning c.args.book.now) c.args.list.now c.retain-kept.new.cells c.retain-kept.result c.retain-kept.ensures.number c.retain-kept.ensures.cells).3 in
+    record { fits = kept.fits; ascends = kept.ascends; layout = kept.layout }
 
 pub overflow_sub-result : goal.overflow_sub-result
 overflow_sub-result g c =

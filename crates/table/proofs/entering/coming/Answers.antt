@@ -52,6 +52,6 @@ returns g c =
     let law = g.met.B.Book.lawful c.args.book.now in
     let here = c.loop-next.descent in
     record {
-      number = counting_all m g.B.Book.most law c.args.list.now c.args.row.now here.left here.heads c.loop-next.next c.loop-next.come c.in-default.is c.loop-next.invariant;
+      number = counting_all m g.B.Book.most law c.args.list.now c.args.row.now here.left here.heads c.loop-next.next c.loop-next.come c.in_default.is c.loop-next.invariant;
       small = counting_small m g.B.Book.most law c.args.list.now c.args.row.now here.left here.heads c.loop-next.next c.loop-next.come c.requires.short c.loop-next.invariant;
     }

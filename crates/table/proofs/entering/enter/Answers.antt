@@ -60,4 +60,4 @@ returns g c =
     let inv = c.loop-next.invariant in
     let here = c.loop-next.descent in
     merging_all (g.B.Book.meaning c.args.book.now) g.B.Book.most (g.met.B.Book.lawful c.args.book.now) c.args.list.now (take c.args.kept c.args.cells.now) inv.0 c.requires.ascends inv.1
-    c.loop-next.cells here.left here.heads c.loop-next.below c.loop-next.top c.loop-next.next c.in-default.is inv.2
+    c.loop-next.cells here.left here.heads c.loop-next.below c.loop-next.top c.loop-next.next c.in_default.is inv.2

@@ -26,7 +26,7 @@ pub copy_within-requires : goal.copy_within-requires
 copy_within-requires c =
     let h = above_within c.args.cells.now c.args.below c.args.top c.args.code c.around-stay.result.0 c.around-stay.result.1 c.requires.within c.requires.behind
     (found c.args.cells.now c.args.below c.args.code c.around-stay.result.0 c.around-stay.result.1 c.around-stay.ensures) in
-    record { start-le-end = h; in_bounds = omega (arith, c.requires.within, c.requires.behind); dest-in-bounds = omega (arith, h, c.requires.within, c.requires.behind); not-exhausted = tt }
+    record { start_le_end = h; in_bounds = omega (arith, c.requires.within, c.requires.behind); dest_in_bounds = omega (arith, h, c.requires.within, c.requires.behind); not_exhausted = tt }
 
 pub overflow_sub-cells : goal.overflow_sub-cells
 overflow_sub-cells c =
