@@ -27,4 +27,4 @@ returns g c =
     let cs = (g.B.Book.meaning c.args.book.now).consequences c.args.fact in
     let old = string_bytes c.loop-code.out in
     let new = string_bytes c.write.new.self in
-    listing_all cs c.loop-code.k old new c.loop-code.invariant.1 (nth_none cs c.loop-code.k c.in-default.ensures) c.loop-code.invariant.0 c.in_ok-write.ensures.bytes
+    listing_all cs c.loop-code.k old new c.loop-code.invariant.1 (nth_none cs c.loop-code.k c.in_default.ensures) c.loop-code.invariant.0 c.in_ok-write.ensures.bytes

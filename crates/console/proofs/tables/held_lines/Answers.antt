@@ -21,4 +21,4 @@ loop-code-preserved c =
 pub returns : goal.returns
 returns c =
     listing_all (facts_of c.args.table.now) c.loop-code.k (string_bytes c.loop-code.out) (string_bytes c.write.new.self) c.loop-code.invariant.1
-    (nth_none (facts_of c.args.table.now) c.loop-code.k c.in-default.ensures.number) c.loop-code.invariant.0 c.in_ok-write.ensures.bytes
+    (nth_none (facts_of c.args.table.now) c.loop-code.k c.in_default.ensures.number) c.loop-code.invariant.0 c.in_ok-write.ensures.bytes
