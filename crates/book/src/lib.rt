@@ -1,5 +1,6 @@
 // A book of rules: what it answers of facts, what its answers mean, and the laws that every book keeps.
 #![tactic(auto)]
+
 ghost use Rattle.std.specs.Prelude.{◌≡◌, ℕ, length, Decides};
 ghost use Rattle.std.specs.List.{slice_get};
 ghost use Rattle.book.specs.Meaning.{Meaning, Lawful, Follows};

@@ -1,5 +1,6 @@
 // What the program prints, as values. A call answers an error where memory does not suffice.
 #![tactic(auto)]
+
 ghost use Rattle.std.specs.Prelude.{◌≡◌, IfOk, string_bytes};
 ghost use Rattle.console.specs.Lines.{added_text, listing_text, clash_text};
 

@@ -10,7 +10,7 @@ use Rattle.rows.proofs.Tests.{false_from_not_true}
 use Rattle.book.proofs.Peace.{follows_by_worlds}
 use Rattle.place_book.specs.Places.{ParentsAreSmaller, Within}
 use Rattle.place_book.specs.Places.Within.{itself}
-use Rattle.place_book.specs.Meaning.{within, consequences, clash, place_meaning}
+use Rattle.place_book.specs.Meaning.{consequences, clash, place_meaning}
 use Rattle.place_book.specs.Facts.{place_of, known, World, Holds}
 use Rattle.place_book.specs.Tree.{within_trans, within_chain}
 use Rattle.place_book.specs.Around.{around_few}

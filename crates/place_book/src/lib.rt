@@ -1,5 +1,6 @@
 // A book of places: the places of a plant, each with its parent, and where things are.
 #![tactic(auto)]
+
 ghost use Rattle.std.specs.Prelude.{◌<◌, ◌≤◌, take};
 ghost use Rattle.place_book.specs.Places.{ParentsAreSmaller, ParentOf};
 

@@ -1,5 +1,6 @@
 // One task on a plant, from its draft to a table of where things are.
 #![tactic(auto)]
+
 use anyhow::Context;
 use console::{added_line, answer_line, changed_line, clash_line, following_lines, held_lines};
 use place_book::{Draft, PlaceBook};

@@ -1,5 +1,6 @@
 // A table of facts under any book of rules: it takes deliveries and withdrawals, and is asked what it holds.
 #![tactic(auto)]
+
 ghost use Rattle.std.specs.Prelude.{◌≡◌, ◌≤◌, take};
 ghost use Rattle.rows.specs.Rows.{Ascending};
 ghost use Rattle.table.specs.Cells.{used, laid};

@@ -1,4 +1,5 @@
 // Examples of tables with their sums done by hand.
 #![tactic(auto)]
+
 #[cfg(test)]
 mod tables;

@@ -1,5 +1,6 @@
 // Examples with their sums done by hand.
 #![tactic(auto)]
+
 #[cfg(test)]
 mod lines;
 #[cfg(test)]
