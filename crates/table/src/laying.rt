@@ -14,8 +14,8 @@ use rows::{Test, keep};
 pub(crate) fn retain<T: Test>(test: &T, cells: &mut [u64], held: usize) -> usize
     requires fits { held ≤ used cells.old }
     requires laid { cells.old ≡ laid (take held cells.old) cells.old }
-    ensures number { result ≡ length (filter (T.Test.test test.now) (take held cells.old)) }
-    ensures cells { cells.new ≡ laid (filter (T.Test.test test.now) (take held cells.old)) cells.old }
+    ensures number { result ≡ length (filter (T.test test.now) (take held cells.old)) }
+    ensures cells { cells.new ≡ laid (filter (T.test test.now) (take held cells.old)) cells.old }
 {
     keep(test, &mut cells[0..held])
 }
