@@ -82,11 +82,11 @@ module _ (m : Meaning) (most : ℕ) (law : Lawful m most) where
 
   -- of a fact that does not clash with itself, what follows is what every world that holds it holds
   pub follows_by_worlds : (a c : ℕ) → m.known a ≡ true → m.known c ≡ true → m.clash a a ≡ false → Follows m a c ↔ HoldsWherever m a c
-  follows_by_worlds a c known-a known-c none = (
+  follows_by_worlds a c known_a known_c none = (
     law.world_holds_what_follows a c,
     λ every.
-        let known : AllKnown m (a ∷ []) = λ d h. subst (λ x. m.known x ≡ true) (has_one a h) known-a in
+        let known : AllKnown m (a ∷ []) = λ d h. subst (λ x. m.known x ≡ true) (has_one a h) known_a in
         let peace : NothingClashes m (a ∷ []) = λ x y hx hy. subst (λ z. m.clash z y ≡ false) (has_one a hx) (subst (λ z. m.clash a z ≡ false) (has_one a hy) none) in
         let w = law.some_world_holds_exactly (a ∷ []) known peace in
-        follows_from_it a c ((w.1 c known-c).0 (every w.0 ((w.1 a known-a).1 (a, has_head a [], law.itself_follows a known-a)))),
+        follows_from_it a c ((w.1 c known_c).0 (every w.0 ((w.1 a known_a).1 (a, has_head a [], law.itself_follows a known_a)))),
   )

@@ -1,18 +1,17 @@
 -- The tests of the meaning tell exactly what follows and what clashes.
-use Rattle.std.specs.Prelude.{◌≡◌, ℕ, ◌<◌, Bool, true, false, not, ◌&&◌, List, [], map, length, Some, Decides, ◌==◌, nat_lt, slice_index}
+use Rattle.std.specs.Prelude.{◌≡◌, ℕ, ◌<◌, true, false, not, ◌&&◌, List, [], map, length, Decides, ◌==◌, nat_lt}
 use Rattle.std.proofs.Common.{sym, ap, subst, ◌∙◌, inl, inr, arith}
-use Rattle.std.specs.List.{slice_get, ContainsAt as Has}
-use Rattle.std.proofs.lemmas.List.{length-map, get_or-map}
-use Rattle.std.proofs.lemmas.Option.{slice_get-get_or}
+use Rattle.std.specs.List.{ContainsAt as Has}
+use Rattle.std.proofs.lemmas.List.{length-map}
 use Rattle.std.proofs.lemmas.Bool.{eqb-true, eq-eqb, ltb-true, lt-ltb, and_parts, and_from, cases_Bool, cond-true, cond-false, not-true, not_from_false}
-use Rattle.std.proofs.lemmas.Bool.Decides.{not_from_Decides, Decides-like}
+use Rattle.std.proofs.lemmas.Bool.Decides.{not_from_Decides}
 use Rattle.rows.specs.Rows.{Ascending}
 use Rattle.rows.proofs.Ascents.{ascending_none, ascending_map}
 use Rattle.rows.proofs.Members.{has_none, map_has, has_map}
 use Rattle.rows.proofs.Tests.{false_from_not_true}
 use Rattle.place_book.specs.Places.{ParentsAreSmaller, Within}
 use Rattle.place_book.specs.Meaning.{within, places_around, consequences, clash}
-use Rattle.place_book.specs.Facts.{code_of, thing_of, place_of, known, FactFollows, ListsFollowing, FactsClash}
+use Rattle.place_book.specs.Facts.{code_of, thing_of, place_of, known, FactFollows, FactsClash}
 use Rattle.place_book.specs.Tree.{within_le, within_tells}
 use Rattle.place_book.specs.Around.{around_ascends, around_has, has_around}
 
@@ -29,12 +28,6 @@ consequences_known ps c e = cond-true (known ps c) _ _ e
 
 pub consequences_unknown : (ps : List ℕ) (c : ℕ) → known ps c ≡ false → consequences ps c ≡ []
 consequences_unknown ps c e = cond-false (known ps c) _ _ e
-
-pub some_follow : (ps : List ℕ) (c : ℕ) → 0 < length (consequences ps c) → known ps c ≡ true
-some_follow ps c some = elim (cases_Bool (known ps c)) [
-  | inl e ↦ e
-  | inr e ↦ absurd (omega (arith, some, ap length (consequences_unknown ps c e)))
-]
 
 module _ (ps : List ℕ) (smaller : ParentsAreSmaller ps) where
   pub has_consequence : (a c : ℕ) → FactFollows ps a c → Has (consequences ps a) c
@@ -90,24 +83,12 @@ module _ (ps : List ℕ) (smaller : ParentsAreSmaller ps) where
           (not_from_false _ (false_from_not_true _ (λ e. s.not_within ((within_tells ps smaller (place_of a) (place_of b) ka.1).0 e))))
           (not_from_false _ (false_from_not_true _ (λ e. s.not_around ((within_tells ps smaller (place_of b) (place_of a) kb.1).0 e))))))
 
-  -- the list tells the same
-  pub listed : (a c : ℕ) (r : Bool) → Decides r (FactFollows ps a c) → Decides r (Has (consequences ps a) c)
-  listed a c r = Decides-like r (has_consequence a c) (consequence_has a c)
-
   pub ascending_consequences : (a : ℕ) → Ascending (consequences ps a)
   ascending_consequences a = elim (cases_Bool (known ps a)) [
     | inl e ↦ subst Ascending (sym (consequences_known ps a e)) (ascending_map (code_of (thing_of a)) (λ x y h. omega arith) (places_around ps (place_of a)) (around_ascends ps (place_of a)))
     | inr e ↦ subst Ascending (sym (consequences_unknown ps a e)) ascending_none
   ]
 
-  pub consequences_list : (a : ℕ) → ListsFollowing ps a (consequences ps a)
-  consequences_list a = record { ascends = ascending_consequences a; has = λ c. (consequence_has a c, has_consequence a c) }
-
-  -- how many follow, and number k of them
+  -- how many follow
   pub consequences_count : (a : ℕ) → known ps a ≡ true → length (consequences ps a) ≡ length (places_around ps (place_of a))
   consequences_count a e = ap length (consequences_known ps a e) ∙ length-map (places_around ps (place_of a)) (code_of (thing_of a))
-
-  pub consequences_nth : (a k : ℕ) → known ps a ≡ true → k < length (places_around ps (place_of a)) → slice_get (consequences ps a) k ≡ Some (code_of (thing_of a) (slice_index (places_around ps (place_of a)) k))
-  consequences_nth a k e lt =
-      slice_get-get_or (consequences ps a) k 0 (omega (arith, consequences_count a e))
-      ∙ ap Some (ap (λ l. slice_index l k) (consequences_known ps a e) ∙ get_or-map (code_of (thing_of a)) (places_around ps (place_of a)) k 0 0 lt)

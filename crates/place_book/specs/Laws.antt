@@ -1,13 +1,11 @@
 -- A book of places keeps the laws of every book.
-use Rattle.std.specs.Prelude.{◌≡◌, ℕ, ◌≤◌, Bool, true, false, List, [], ◌∷◌, length, Decides, refl}
+use Rattle.std.specs.Prelude.{◌≡◌, ℕ, ◌≤◌, true, false, List, [], ◌∷◌, length, refl}
 use Rattle.std.proofs.Common.{sym, ap, subst, ◌∙◌, inl, inr, arith}
 use Rattle.std.specs.List.{ContainsAt as Has}
 use Rattle.std.proofs.lemmas.Bool.{cases_Bool, both_ways}
-use Rattle.std.proofs.lemmas.Bool.Decides.{Decides-at, Decides-like}
 use Rattle.rows.proofs.Members.{has_head, has_tail, has_cases, has_one}
-use Rattle.book.specs.Meaning.{Meaning, Lawful, FollowsFromOne, AllKnown, NothingClashes, TellsFollows, TellsClash}
+use Rattle.book.specs.Meaning.{Meaning, Lawful, FollowsFromOne, AllKnown, NothingClashes}
 use Rattle.rows.proofs.Tests.{false_from_not_true}
-use Rattle.book.proofs.Peace.{follows_by_worlds}
 use Rattle.place_book.specs.Places.{ParentsAreSmaller, Within}
 use Rattle.place_book.specs.Places.Within.{itself}
 use Rattle.place_book.specs.Meaning.{consequences, clash, place_meaning}
@@ -28,7 +26,7 @@ module _ (ps : List ℕ) (smaller : ParentsAreSmaller ps) where
     | inr r ↦ subst P (has_one b r) pb
   ]
 
-  clash_itself : (a : ℕ) → clash ps a a ≡ false
+  pub clash_itself : (a : ℕ) → clash ps a a ≡ false
   clash_itself a = false_from_not_true (clash ps a a) (λ e. ((clash_tells ps smaller a a).0 e).not_within itself)
 
   clash_turned : (a b : ℕ) → clash ps a b ≡ true → clash ps b a ≡ true
@@ -36,7 +34,7 @@ module _ (ps : List ℕ) (smaller : ParentsAreSmaller ps) where
       let s = (clash_tells ps smaller a b).0 e in
       (clash_tells ps smaller b a).1 (record { first_known = s.second_known; second_known = s.first_known; same_thing = sym s.same_thing; not_within = s.not_around; not_around = s.not_within })
 
-  clash_holds_nowhere : (a b : ℕ) → clash ps a b ≡ true → (w : World ps) → Holds ps w a → Holds ps w b → ⊥
+  pub clash_holds_nowhere : (a b : ℕ) → clash ps a b ≡ true → (w : World ps) → Holds ps w a → Holds ps w b → ⊥
   clash_holds_nowhere a b e w ha hb =
       let s = (clash_tells ps smaller a b).0 e in
       let seat : ha.0 ≡ hb.0 = some_same (sym ha.1 ∙ ap w.seat s.same_thing ∙ hb.1) in
@@ -45,7 +43,7 @@ module _ (ps : List ℕ) (smaller : ParentsAreSmaller ps) where
         | inr u ↦ s.not_around u
       ]
 
-  holds_nowhere_clash : (a b : ℕ) → known ps a ≡ true → known ps b ≡ true → ((w : World ps) → Holds ps w a → Holds ps w b → ⊥) → clash ps a b ≡ true
+  pub holds_nowhere_clash : (a b : ℕ) → known ps a ≡ true → known ps b ≡ true → ((w : World ps) → Holds ps w a → Holds ps w b → ⊥) → clash ps a b ≡ true
   holds_nowhere_clash a b ka kb nowhere = elim (cases_Bool (clash ps a b)) [
     | inl e ↦ e
     | inr none ↦
@@ -84,12 +82,3 @@ module _ (ps : List ℕ) (smaller : ParentsAreSmaller ps) where
     at_most_follow = few small;
     most_is_small = omega arith;
   }
-
-  -- the answers by worlds
-  pub follows_in_worlds : length ps ≤ 256 → (a c : ℕ) (r : Bool) → Decides r (Has (consequences ps a) c) → TellsFollows m a c r
-  follows_in_worlds small a c r tells ka kc =
-      let same = follows_by_worlds m 256 (place_book_lawful small) a c ka kc (clash_itself a) in
-      Decides-like r same.0 same.1 tells
-
-  pub clash_in_worlds : (a b : ℕ) (r : Bool) → r ≡ clash ps a b → TellsClash m a b r
-  clash_in_worlds a b r e ka kb = Decides-at r (clash ps a b) e (clash_holds_nowhere a b, holds_nowhere_clash a b ka kb)

@@ -89,9 +89,9 @@ module _ (ps : List ℕ) (smaller : ParentsAreSmaller ps) where
 
   -- the world that seats each thing by the list
   pub world_of : (l : List ℕ) → AllKnown m l → World ps
-  world_of l all_Known = record {
+  world_of l all_known = record {
     seat = seat_of l;
-    seats_stand = λ a s e. let n = seat_named l a s e in omega (arith, (known_parts ps n.0 (all_Known n.0 n.1)).1, n.3);
+    seats_stand = λ a s e. let n = seat_named l a s e in omega (arith, (known_parts ps n.0 (all_known n.0 n.1)).1, n.3);
   }
 
   -- of two places of one thing that do not clash, the larger lies within the other

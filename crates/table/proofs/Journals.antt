@@ -69,15 +69,15 @@ run_more : (m : Meaning) (size i : ℕ) (calls : List Call) (answers : List Answ
 run_more m size i calls answers facts call answer new long run carried = record {
   all_answered = length_push answers answer ∙ omega (arith, run.all_answered, length_push calls call);
   none_at_first = holds_before facts i new 0 (omega arith) ∙ run.none_at_first;
-  each_carried_out = λ j c a is_call is-answer. elim (nth_push calls call c j is_call) [
-    | inl p ↦ elim (nth_push answers answer a j is-answer) [
+  each_carried_out = λ j c a is_call is_answer. elim (nth_push calls call c j is_call) [
+    | inl p ↦ elim (nth_push answers answer a j is_answer) [
       | inl q ↦
           let low : j < i = omega (arith, p.0) in
           subst (λ l. CarriedOut m size l c (then_holds facts i new (j + 1)) a) (sym (holds_before facts i new j (omega arith)))
           (subst (λ l. CarriedOut m size (facts j) c l a) (sym (holds_before facts i new (j + 1) (omega arith))) (run.each_carried_out j c a p.1 q.1))
       | inr q ↦ absurd (omega (arith, p.0, q.0, run.all_answered))
     ]
-    | inr p ↦ elim (nth_push answers answer a j is-answer) [
+    | inr p ↦ elim (nth_push answers answer a j is_answer) [
       | inl q ↦ absurd (omega (arith, p.0, q.0, run.all_answered))
       | inr q ↦
           let e : i ≡ j = omega (arith, p.0) in

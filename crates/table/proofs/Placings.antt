@@ -57,7 +57,7 @@ module _ (old : List ℕ) (below top code stay above : ℕ) (within : top ≤ le
         ∙ ap (λ x. x ∷ drop (stay + 1) (take below old)) e.1 ∙ ap (λ n. code ∷ drop n (take below old)) (sym e.0)))
   ]
 
-  module _ (free : ℕ) (free-is : free ≡ top - (below - above)) (some : stay < free) where
+  module _ (free : ℕ) (free_is : free ≡ top - (below - above)) (some : stay < free) where
     abbrev moved : List ℕ
     moved = paste old free (drop above old) (below - above)
 

@@ -47,7 +47,7 @@ pub record LawOfRuns (m : Meaning) (calls : List Call) (answers : List Answer) (
       → (r : Result (ℕ × ℕ) Refusal) × (slice_get answers i ≡ Some (Changed r)) × WithdrawalByWorlds m list.now (facts i) (facts (i + 1)) r
 
 -- The calls were carried out on a table made over the cells `before`. In the end it holds `held` and its cells are `after`.
-pub record Replayed (m : Meaning) (before after held : List ℕ) (calls : List Call) (places-before places-after : List (Option Answer)) : Type 0 where
+pub record Replayed (m : Meaning) (before after held : List ℕ) (calls : List Call) (places_before places_after : List (Option Answer)) : Type 0 where
   pub answers : List Answer
   pub facts : ℕ → List ℕ
   -- all the cells, `cells i` after the first i calls
@@ -66,4 +66,4 @@ pub record Replayed (m : Meaning) (before after held : List ℕ) (calls : List C
   pub ends : after ≡ cells (length calls)
   pub holds : held ≡ facts (length calls)
   -- the answers stand in order in the places for them, as far as there are places; the other places are as they were
-  pub answered : places-after ≡ map Some (take (length places-before) answers) ++ drop (length calls) places-before
+  pub answered : places_after ≡ map Some (take (length places_before) answers) ++ drop (length calls) places_before

@@ -1,5 +1,5 @@
 use Rattle.std.proofs.Common.{arith}
-use Rattle.place_book.specs.Tree.{parent_read}
+use Rattle.place_book.proofs.Tree.{parent_read}
 use Rattle.place_book.proofs.parent_among.Goals as goal
 
 pub returns : goal.returns

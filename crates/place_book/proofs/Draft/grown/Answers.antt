@@ -1,7 +1,7 @@
 use Rattle.std.proofs.Common.{◌≡◌, length, sym, subst, arith, rules}
 use Rattle.std.proofs.lemmas.List.{take_more_set, length-take}
 use Rattle.place_book.specs.Places.{ParentsAreSmaller}
-use Rattle.place_book.specs.Tree.{smaller_push}
+use Rattle.place_book.proofs.Tree.{smaller_push}
 use Rattle.place_book.proofs.Draft.grown.Goals as goal
 
 pub invariant_of-result : goal.invariant_of-result

@@ -1,7 +1,7 @@
 use Rattle.std.proofs.Common.{◌<◌, length, get_or, sym, ap, ◌∙◌, arith}
 use Rattle.place_book.specs.Meaning.{places_around}
 use Rattle.place_book.specs.View.{book_places}
-use Rattle.place_book.specs.Around.{around_many, around_length, around_keeps, around_last}
+use Rattle.place_book.proofs.Around.{around_many, around_length, around_keeps, around_last}
 use Rattle.place_book.proofs.PlaceBook.ancestor.Goals as goal
 
 pub up-at-requires : goal.up-at-requires

@@ -1,5 +1,5 @@
 use Rattle.place_book.specs.View.{book_places}
-use Rattle.place_book.specs.Around.{Reached}
+use Rattle.place_book.proofs.Around.{Reached}
 use Rattle.place_book.proofs.PlaceBook.ancestor.Given as goal
 
 abbrev pub invariant-loop : goal.invariant-loop

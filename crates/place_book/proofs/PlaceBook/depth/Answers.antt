@@ -1,7 +1,8 @@
 use Rattle.std.proofs.Common.{length, ap, arith}
 use Rattle.place_book.specs.Meaning.{places_around}
 use Rattle.place_book.specs.Tree.{few_places}
-use Rattle.place_book.specs.Around.{around_few, around_length, around_one}
+use Rattle.place_book.specs.Around.{around_few}
+use Rattle.place_book.proofs.Around.{around_length, around_one}
 use Rattle.place_book.specs.View.{book_places}
 use Rattle.place_book.proofs.PlaceBook.depth.Goals as goal
 

@@ -1,6 +1,6 @@
 use Rattle.std.proofs.Common.{arith}
 use Rattle.std.proofs.lemmas.Bool.Decides.{Decides-like}
-use Rattle.place_book.specs.Tree.{climb_step, climb_end}
+use Rattle.place_book.proofs.Tree.{climb_step, climb_end}
 use Rattle.place_book.specs.View.{book_places}
 use Rattle.place_book.proofs.PlaceBook.lies_within.Goals as goal
 

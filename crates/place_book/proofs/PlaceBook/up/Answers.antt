@@ -1,6 +1,6 @@
 use Rattle.std.proofs.Common.{◌≡◌, length, arith, rules}
 use Rattle.std.proofs.lemmas.List.{length-take}
-use Rattle.place_book.specs.Tree.{parent_read}
+use Rattle.place_book.proofs.Tree.{parent_read}
 use Rattle.place_book.proofs.PlaceBook.up.Goals as goal
 
 pub returns : goal.returns

@@ -2,7 +2,7 @@ use Rattle.std.proofs.lemmas.Bool.Decides.{same_from_decides}
 use Rattle.place_book.specs.Meaning.{clash}
 use Rattle.place_book.specs.View.{book_places}
 use Rattle.place_book.specs.FactsLemmas.{clash_tells}
-use Rattle.place_book.specs.Laws.{clash_in_worlds}
+use Rattle.place_book.proofs.Laws.{clash_in_worlds}
 use Rattle.place_book.proofs.answers.PlaceBookBook.clash.Goals as goal
 
 pub returns : goal.returns

@@ -1,7 +1,8 @@
 use Rattle.std.proofs.Common.{length, sym, ap, ◌∙◌}
 use Rattle.place_book.specs.Meaning.{consequences}
 use Rattle.place_book.specs.View.{book_places}
-use Rattle.place_book.specs.FactsLemmas.{consequences_unknown, consequences_count, consequences_list}
+use Rattle.place_book.specs.FactsLemmas.{consequences_unknown, consequences_count}
+use Rattle.place_book.proofs.Facts.{consequences_list}
 use Rattle.place_book.proofs.answers.PlaceBookBook.count_following.Goals as goal
 
 pub returns-then-not-knows : goal.returns-then-not-knows

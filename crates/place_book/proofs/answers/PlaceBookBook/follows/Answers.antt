@@ -1,6 +1,6 @@
 use Rattle.place_book.specs.View.{book_places}
-use Rattle.place_book.specs.FactsLemmas.{listed}
-use Rattle.place_book.specs.Laws.{follows_in_worlds}
+use Rattle.place_book.proofs.Facts.{listed}
+use Rattle.place_book.proofs.Laws.{follows_in_worlds}
 use Rattle.place_book.specs.Tree.{few_places}
 use Rattle.place_book.proofs.answers.PlaceBookBook.follows.Goals as goal
 

@@ -3,7 +3,8 @@ use Rattle.std.proofs.lemmas.Option.{slice_get_past}
 use Rattle.place_book.specs.Meaning.{consequences}
 use Rattle.place_book.specs.Facts.{code_of, thing_of}
 use Rattle.place_book.specs.View.{book_places}
-use Rattle.place_book.specs.FactsLemmas.{known_parts, some_follow, consequences_count, consequences_nth, consequences_list}
+use Rattle.place_book.specs.FactsLemmas.{known_parts, consequences_count}
+use Rattle.place_book.proofs.Facts.{some_follow, consequences_nth, consequences_list}
 use Rattle.place_book.proofs.answers.PlaceBookBook.nth_following.Goals as goal
 
 pub returns-then-k-count : goal.returns-then-k-count

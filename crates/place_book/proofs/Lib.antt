@@ -1,0 +1,4 @@
+pub mod Tree
+pub mod Around
+pub mod Facts
+pub mod Laws
