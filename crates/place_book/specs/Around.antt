@@ -1,4 +1,4 @@
--- The places in which a place lies, ascending: one more at the end for each step down.
+-- The places in which a place lies: they ascend, and are those within which it lies.
 use Rattle.std.specs.Prelude.{ℕ, ◌<◌, ◌≤◌, List, length}
 use Rattle.std.proofs.Common.{arith}
 use Rattle.std.specs.List.{range_with_len, ContainsAt as Has}

@@ -24,7 +24,7 @@ struct Compatible<'a, 'b, B> {
 }
 
 impl<'a, 'b, B: Book> Test for Compatible<'a, 'b, B> {
-    ghost test = { λ t. stays (B.Book.meaning t.book.now) t.list.now };
+    ghost test = { λ t. stays (B.meaning t.book.now) t.list.now };
 
     fn passes(&self, c: u64) -> bool {
         clashes_with_none(self.book, self.list, c)

@@ -23,7 +23,7 @@ struct Untouched<'a, 'b, B> {
 }
 
 impl<'a, 'b, B: Book> Test for Untouched<'a, 'b, B> {
-    ghost test = { λ t. untouched (B.Book.meaning t.book.now) t.list.now };
+    ghost test = { λ t. untouched (B.meaning t.book.now) t.list.now };
 
     fn passes(&self, c: u64) -> bool {
         leads_to_none(self.book, self.list, c)
