@@ -1,10 +1,10 @@
 -- What the laws give of clashes and of what follows, for every book.
 use Rattle.std.proofs.Common.{◌≡◌, ℕ, ◌<◌, ◌≤◌, true, false, ◌↔◌, List, [], ◌∷◌, length, get_or, Some, None, Option, sym, refl, ◌∙◌, subst, inl, inr, arith}
-use Rattle.std.specs.List.{ContainsAt as Has}
-use Rattle.std.proofs.ByRecursion.{has_get_or}
-use Rattle.std.proofs.lemmas.Bool.{both_ways, cases_Bool, cases_lt}
+use Rattle.std.specs.List.{Contains}
+use Rattle.std.proofs.lemmas.List.Elements.{Contains-get_or}
+use Rattle.std.proofs.lemmas.Bool.{both_ways, cases_Bool, cases_lt, false_from_ne_true}
 use Rattle.std.proofs.lemmas.Bool.Decides.{same_from_decides}
-use Rattle.rows.proofs.Tests.{false_from_not_true, some_not_none}
+use Rattle.std.proofs.lemmas.Option.{none-some}
 use Rattle.rows.proofs.Members.{each_member, has_none, has_head, has_one}
 use Rattle.book.specs.Meaning.{Meaning, Lawful, Follows, FollowsFromOne, AllKnown, NothingClashes, HoldsWherever}
 use Rattle.book.specs.Lists.{FirstAgainst, FirstClash, NoWorldHoldsAll, SomeClash, ClashIsSymmetric, CausesClash, ConsequencesDoNotClash, ConsequencesDoNotClashWith, ContradictionIsClash, TellsContradiction}
@@ -13,7 +13,7 @@ module _ (m : Meaning) (most : ℕ) (law : Lawful m most) where
   known_cause : (a c : ℕ) → Follows m a c → m.known a ≡ true
   known_cause a c f = elim (cases_Bool (m.known a)) [
     | inl e ↦ e
-    | inr e ↦ absurd (has_none (subst (λ l. Has l c) (law.unknown_has_no_consequences a e) f))
+    | inr e ↦ absurd (has_none (subst (λ l. Contains l c) (law.unknown_has_no_consequences a e) f))
   ]
 
   turned : (a b : ℕ) → m.clash a b ≡ true → m.clash b a ≡ true
@@ -30,12 +30,12 @@ module _ (m : Meaning) (most : ℕ) (law : Lawful m most) where
       (law.clash_is_no_common_world b a known_b (known_cause a c f)).1 (λ w hb ha.
       (law.clash_is_no_common_world b c known_b (law.only_known_follow a c f)).0 e w hb (law.world_holds_what_follows a c f w ha))
 
-  not_with : (l : List ℕ) (c : ℕ) → ((d : ℕ) → Has l d → m.clash d c ≡ false) → ConsequencesDoNotClashWith m l c
-  not_with l c none a f = false_from_not_true (m.clash a c) (λ e.
+  not_with : (l : List ℕ) (c : ℕ) → ((d : ℕ) → Contains l d → m.clash d c ≡ false) → ConsequencesDoNotClashWith m l c
+  not_with l c none a f = false_from_ne_true (m.clash a c) (λ e.
       both_ways _ (none f.0 f.1) (turned c f.0 (causes_clash f.0 c a f.2 (turned a c e))))
 
   not_among : (l : List ℕ) → NothingClashes m l → ConsequencesDoNotClash m l
-  not_among l none a b fa fb = false_from_not_true (m.clash a b) (λ e.
+  not_among l none a b fa fb = false_from_ne_true (m.clash a b) (λ e.
       both_ways _ (not_with l fb.0 (λ d h. none d fb.0 h fb.1) a fa) (causes_clash fb.0 a b fb.2 e))
 
   -- places in order are enough, since a clash is symmetric
@@ -50,11 +50,11 @@ module _ (m : Meaning) (most : ℕ) (law : Lawful m most) where
 
   pub none_against : (l : List ℕ) (c : ℕ) (r : Option ℕ) → FirstAgainst m l (length l) c r → r ≡ None → ConsequencesDoNotClashWith m l c
   none_against l c None f e = not_with l c (each_member (λ d. m.clash d c ≡ false) l f)
-  none_against l c (Some i) f e = absurd (some_not_none e)
+  none_against l c (Some i) f e = absurd (none-some _ (sym e))
 
   pub none_clash : (l : List ℕ) (r : Option (ℕ × ℕ)) → FirstClash m l r → r ≡ None → ConsequencesDoNotClash m l
   none_clash l None f e = not_among l f
-  none_clash l (Some p) f e = absurd (some_not_none e)
+  none_clash l (Some p) f e = absurd (none-some _ (sym e))
 
   -- where nothing clashes, some world holds all
   peaceful_world : (l : List ℕ) → AllKnown m l → NothingClashes m l → NoWorldHoldsAll m l → ⊥
@@ -67,7 +67,7 @@ module _ (m : Meaning) (most : ℕ) (law : Lawful m most) where
       (law.clash_is_no_common_world s.0 s.1 (known s.0 s.2) (known s.1 s.3)).0 s.4 w (all s.0 s.2) (all s.1 s.3)
 
   found : (l : List ℕ) (p : ℕ × ℕ) → FirstClash m l (Some p) → SomeClash m l
-  found l p f = (get_or l p.0 0, get_or l p.1 0, has_get_or l p.0 0 (omega (arith, f.0, f.1)), has_get_or l p.1 0 f.1, f.2)
+  found l p f = (get_or l p.0 0, get_or l p.1 0, Contains-get_or l p.0 0 (omega (arith, f.0, f.1)), Contains-get_or l p.1 0 f.1, f.2)
 
   pub first_clash_tells : (l : List ℕ) (r : Option (ℕ × ℕ)) → FirstClash m l r → TellsContradiction m l r
   first_clash_tells l None f known = ((λ e. absurd (both_ways false refl e)), λ nowhere. absurd (peaceful_world l known f nowhere))

@@ -1,6 +1,6 @@
 -- What is asked of a list of facts under a book, and what the laws give of it.
-use Rattle.std.specs.Prelude.{◌≡◌, ℕ, ◌<◌, ◌≤◌, true, false, ◌↔◌, List, length, is_some, Some, None, Decides, Option, slice_index}
-use Rattle.std.specs.List.{ContainsAt as Has}
+use Rattle.std.specs.Prelude.{◌≡◌, ℕ, ◌<◌, ◌≤◌, true, false, ◌↔◌, List, length, Some, None, IsSome, Option, slice_index}
+use Rattle.std.specs.List.{Contains}
 use Rattle.book.specs.Meaning.{Meaning, Follows, FollowsFromOne, AllKnown, NothingClashes, HoldsAll}
 
 -- the place of the first code that the book does not know; none where it knows them all
@@ -43,7 +43,7 @@ NoWorldHoldsAll m l = (w : m.World) → HoldsAll m w l → ⊥
 
 -- two facts of the list, or one taken twice, clash
 abbrev pub SomeClash : Meaning → List ℕ → Type 0
-SomeClash m l = (a : ℕ) × (b : ℕ) × Has l a × Has l b × (m.clash a b ≡ true)
+SomeClash m l = (a : ℕ) × (b : ℕ) × Contains l a × Contains l b × (m.clash a b ≡ true)
 
 -- no world holds all of a list of known facts exactly when two of them, or one taken twice, clash
 abbrev pub ContradictionIsClash : Meaning → List ℕ → Type 0
@@ -51,4 +51,4 @@ ContradictionIsClash m l = AllKnown m l → NoWorldHoldsAll m l ↔ SomeClash m 
 
 -- of known facts, two places are answered exactly when no world holds all of them
 abbrev pub TellsContradiction : Meaning → List ℕ → Option (ℕ × ℕ) → Type 0
-TellsContradiction m l r = AllKnown m l → Decides (is_some r) (NoWorldHoldsAll m l)
+TellsContradiction m l r = AllKnown m l → IsSome r ↔ NoWorldHoldsAll m l

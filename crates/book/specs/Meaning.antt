@@ -1,6 +1,6 @@
 -- What a book of rules means, and the laws that every book keeps.
-use Rattle.std.specs.Prelude.{◌≡◌, ℕ, ◌^◌, ◌<◌, ◌≤◌, Bool, true, false, ◌↔◌, List, [], length, Decides}
-use Rattle.std.specs.List.{ContainsAt as Has}
+use Rattle.std.specs.Prelude.{◌≡◌, ℕ, ◌^◌, ◌<◌, ◌≤◌, Bool, true, false, ◌↔◌, List, [], length, IsTrue}
+use Rattle.std.specs.List.{Contains}
 use Rattle.rows.specs.Rows.{Ascending}
 
 -- The meaning of one book of rules. A fact is a code, a whole number of 64 bits.
@@ -17,23 +17,23 @@ pub record Meaning : Type 1 where
 
 -- c follows from a
 abbrev pub Follows : Meaning → ℕ → ℕ → Type 0
-Follows m a c = Has (m.consequences a) c
+Follows m a c = Contains (m.consequences a) c
 
 -- c follows from one of the list
 abbrev pub FollowsFromOne : Meaning → List ℕ → ℕ → Type 0
-FollowsFromOne m l c = (d : ℕ) × Has l d × Follows m d c
+FollowsFromOne m l c = (d : ℕ) × Contains l d × Follows m d c
 
 -- the book knows each fact of the list
 abbrev pub AllKnown : Meaning → List ℕ → Type 0
-AllKnown m l = (c : ℕ) → Has l c → m.known c ≡ true
+AllKnown m l = (c : ℕ) → Contains l c → m.known c ≡ true
 
 -- no two facts of the list clash, and none clashes with itself
 abbrev pub NothingClashes : Meaning → List ℕ → Type 0
-NothingClashes m l = (a b : ℕ) → Has l a → Has l b → m.clash a b ≡ false
+NothingClashes m l = (a b : ℕ) → Contains l a → Contains l b → m.clash a b ≡ false
 
 -- the world holds each fact of the list
 abbrev pub HoldsAll : (m : Meaning) → m.World → List ℕ → Type 0
-HoldsAll m w l = (c : ℕ) → Has l c → m.Holds w c
+HoldsAll m w l = (c : ℕ) → Contains l c → m.Holds w c
 
 -- every world that holds the first fact holds the second
 abbrev pub HoldsWherever : Meaning → ℕ → ℕ → Type 0
@@ -71,8 +71,8 @@ pub record Lawful (m : Meaning) (most : ℕ) : Type 0 where
 
 -- of known facts, the answer r tells whether every world that holds the first holds the second
 abbrev pub TellsFollows : Meaning → ℕ → ℕ → Bool → Type 0
-TellsFollows m a c r = m.known a ≡ true → m.known c ≡ true → Decides r (HoldsWherever m a c)
+TellsFollows m a c r = m.known a ≡ true → m.known c ≡ true → IsTrue r ↔ HoldsWherever m a c
 
 -- of known facts, the answer r tells whether no world holds both
 abbrev pub TellsClash : Meaning → ℕ → ℕ → Bool → Type 0
-TellsClash m a b r = m.known a ≡ true → m.known b ≡ true → Decides r (NoWorldHoldsBoth m a b)
+TellsClash m a b r = m.known a ≡ true → m.known b ≡ true → IsTrue r ↔ NoWorldHoldsBoth m a b

@@ -1,12 +1,14 @@
 // A book of rules: what it answers of facts, what its answers mean, and the laws that every book keeps.
 #![tactic(auto)]
 
-ghost use Rattle.std.specs.Prelude.{◌≡◌, ℕ, length, Decides};
+ghost use Rattle.std.specs.Prelude.{◌≡◌, ℕ, ◌↔◌, length, IsTrue};
 ghost use Rattle.std.specs.List.{slice_get};
 ghost use Rattle.book.specs.Meaning.{Meaning, Lawful, Follows};
 
+mod following;
 mod lists;
 
+pub use following::Consequences;
 pub use lists::{first_against, first_clash, first_unknown};
 
 // A book of rules. A fact is a code, a whole number of 64 bits, and a book knows some codes.
@@ -16,15 +18,10 @@ pub trait Book {
     // The kind's own number: no more facts than this follow from one fact. At most 65,536.
     const MOST_CONSEQUENCES: usize;
 
+    // The same number, for clauses and laws: each impl gives both, and the check proves them equal.
+    ghost MOST_CONSEQUENCES: { ℕ };
+
     ghost meaning: { Self → Meaning };
-
-    // The number of which the laws speak, since a clause cannot name the constant. Every impl answers `most_following`
-    // by its constant; nothing else ties the two, so generic code asks `most_following` and does not read the constant.
-    ghost most: { ℕ };
-
-    // The kind's own number.
-    fn most_following() -> usize
-        ensures { result ≡ most };
 
     // Whether the book knows the code.
     fn knows(&self, code: u64) -> bool
@@ -32,7 +29,7 @@ pub trait Book {
 
     // Whether `fact` follows from `cause`.
     fn follows(&self, cause: u64, fact: u64) -> bool
-        ensures { Decides result (Follows (meaning self.now) cause fact) };
+        ensures { IsTrue result ↔ Follows (meaning self.now) cause fact };
 
     // Whether two facts, or one taken twice, clash.
     fn clash(&self, first: u64, second: u64) -> bool
@@ -46,5 +43,5 @@ pub trait Book {
     fn nth_following(&self, fact: u64, k: usize) -> Option<u64>
         ensures { result ≡ slice_get ((meaning self.now).consequences fact) k };
 
-    ghost lawful: { (b : Self) → Lawful (meaning b) most };
+    ghost lawful: { (b : Self) → Lawful (meaning b) MOST_CONSEQUENCES };
 }

@@ -8,12 +8,7 @@ use crate::Book;
 pub fn first_unknown<B: Book>(book: &B, facts: &[u64]) -> Option<usize>
     ensures { FirstUnknown (B.meaning book.now) facts.now result }
 {
-    for (i, fact) in facts.iter().enumerate() {
-        if !book.knows(*fact) {
-            return Some(i);
-        }
-    }
-    None
+    facts.iter().position(|fact| !book.knows(*fact))
 }
 
 // The place of the first of the facts that clashes with `fact`, or none where none does.
@@ -25,7 +20,7 @@ pub fn first_against<B: Book>(book: &B, facts: &[u64], fact: u64) -> Option<usiz
     ensures causes_clash { CausesClash (B.meaning book.now) }
     ensures consequences { result ≡ None → ConsequencesDoNotClashWith (B.meaning book.now) facts.now fact }
 {
-    against(book, facts, facts.len(), fact)
+    facts.iter().position(|other| book.clash(*other, fact))
 }
 
 // The places i ≤ j of the first two facts that clash, or none: the least j, and for it the least i.
@@ -40,25 +35,12 @@ pub fn first_clash<B: Book>(book: &B, facts: &[u64]) -> Option<(usize, usize)>
     clash_among(book, facts)
 }
 
-// The place of the first fact before place `end` that clashes with `fact`.
-fn against<B: Book>(book: &B, facts: &[u64], end: usize, fact: u64) -> Option<usize>
-    requires { end ≤ length facts.now }
-    ensures { FirstAgainst (B.meaning book.now) facts.now end fact result }
-{
-    for i in 0..end {
-        if book.clash(facts[i], fact) {
-            return Some(i);
-        }
-    }
-    None
-}
-
 // The places of the first two facts that clash.
 fn clash_among<B: Book>(book: &B, facts: &[u64]) -> Option<(usize, usize)>
     ensures { FirstClash (B.meaning book.now) facts.now result }
 {
-    for j in 0..facts.len() {
-        if let Some(i) = against(book, facts, j + 1, facts[j]) {
+    for (j, fact) in facts.iter().enumerate() {
+        if let Some(i) = first_against(book, &facts[..=j], *fact) {
             return Some((i, j));
         }
     }

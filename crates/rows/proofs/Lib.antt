@@ -1,4 +1,4 @@
-pub mod Tests
+pub mod Gathering
 pub mod Members
 pub mod Ascents
 pub mod Properties

@@ -1,6 +1,6 @@
 -- Rows of numbers in ascending order.
 use Rattle.std.specs.Prelude.{◌≡◌, ℕ, ◌<◌, ◌≤◌, ◌↔◌, List, length, Ok, Err, Result, slice_index}
-use Rattle.std.specs.List.{ContainsAt as Has}
+use Rattle.std.specs.List.{Contains}
 
 -- each number is below each that stands behind it, so that none stands twice
 abbrev pub Ascending : List ℕ → Type 0
@@ -9,7 +9,7 @@ Ascending xs = (i j : ℕ) → i < j → j < length xs → slice_index xs i < sl
 -- the row of exactly those numbers that have the property P; there is at most one
 pub record RowOf (P : ℕ → Type 0) (xs : List ℕ) : Type 0 where
   pub ascends : Ascending xs
-  pub members : (c : ℕ) → Has xs c ↔ P c
+  pub members : (c : ℕ) → Contains xs c ↔ P c
 
 -- exactly n numbers have the property P
 abbrev pub Count : (ℕ → Type 0) → ℕ → Type 0

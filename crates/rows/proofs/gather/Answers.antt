@@ -1,24 +1,32 @@
-use Rattle.std.proofs.Common.{◌<◌, length, get_or, sym, ap, ◌∙◌, arith, rules}
-use Rattle.std.proofs.lemmas.List.{get_or_default, length-take-le}
-use Rattle.std.proofs.lemmas.List.Filters.{FiltersInPlace-all, FiltersInPlace-more_set, FiltersInPlace-more_no}
+use Rattle.std.proofs.Common.{◌≡◌, ◌<◌, ◌∷◌, [], ◌++◌, Bool, true, false, length, get_or, ◌∙◌, subst, arith, of_calls, rules}
+use Rattle.std.proofs.lemmas.List.{get_or_default}
+use Rattle.std.specs.List.Retain.{ReturnsInTurn}
+use Rattle.std.proofs.Retain.{retain_drops, retain_unvisited, answers_push}
+use Rattle.rows.proofs.Gathering.{moved_to_front}
+use Rattle.rows.proofs.gather.Goals.{then-test, else-test}
 use Rattle.rows.proofs.gather.Goals as goal
-use Rattle.rows.proofs.gather.Goals.{then-passes, else-passes}
 
 pub loop-i-preserved : goal.loop-i-preserved
 loop-i-preserved g c =
-    let h : c.loop-i.i < length c.loop-i.row = search rules in
-    let d = get_or_default c.loop-i.row c.loop-i.i 0 (get_or c.loop-i.row c.loop-i.i 0) h in
-    elim c.if-passes.branch [
-      | then-passes w ↦ rw (w.row-is, w.passing-is) (FiltersInPlace-more_set c.loop-i.invariant h (sym c.passes.ensures ∙ w.if-passes.true) d)
-      | else-passes w ↦ rw (w.row-is, w.passing-is) (FiltersInPlace-more_no c.loop-i.invariant h (sym c.passes.ensures ∙ w.if-passes.false) d)
+    let xs = c.args.row.now in
+    let at = c.loop-i in
+    let x = get_or at.row at.i 0 in
+    let so_far = at.invariant.2 in
+    let bs = so_far.0 in
+    let within : at.i < length at.row = search rules in
+    let read : x ≡ get_or xs (length bs) x = get_or_default at.row at.i 0 x within ∙ retain_unvisited bs xs at.row at.kept at.i x so_far.1 in
+    let answered : (b : Bool) → c.test.result ≡ b → ReturnsInTurn (λ p y b q. goal.F-step g p y b q) c.args.test (bs ++ (b ∷ [])) xs c.test.new.self
+    = λ b e. answers_push (λ p y b q. goal.F-step g p y b q) c.args.test at.test c.test.new.self bs xs x b
+    (omega (arith, so_far.1.0)) read so_far.2 (subst (λ b. goal.F-step g at.test x b c.test.new.self) e c.test.ensures) in
+    elim c.if-test.branch [
+      | then-test w ↦ rw (w.row-is, w.kept-is) (
+        omega arith,
+        search of_calls,
+        (bs ++ (true ∷ []), moved_to_front bs xs at.row at.kept at.i at.invariant.0 (omega arith) within so_far.1, answered true w.if-test.true),
+      )
+      | else-test w ↦ rw (w.row-is, w.kept-is) (
+        omega arith,
+        search of_calls,
+        (bs ++ (false ∷ []), retain_drops bs xs at.row at.kept at.i so_far.1, answered false w.if-test.false),
+      )
     ]
-
-pub returns : goal.returns
-returns g c =
-    let inv = c.loop-i.invariant in
-    let front = FiltersInPlace-all inv (omega arith) in
-    record {
-      within = omega (arith, inv.behind, inv.within);
-      number = sym (length-take-le c.loop-i.passing c.loop-i.row (omega (arith, inv.behind, inv.within, inv.long))) ∙ ap length front;
-      front = front;
-    }

@@ -10,7 +10,7 @@ returns g c =
     let first = c.clash_among.ensures in
     record {
       first = first;
-      no_world = first_clash_tells m g.B.Book.most law l r first;
-      some_clash = no_world_is_a_clash m g.B.Book.most law l r first;
-      consequences = none_clash m g.B.Book.most law l r first;
+      no_world = first_clash_tells m g.B.Book.MOST_CONSEQUENCES law l r first;
+      some_clash = no_world_is_a_clash m g.B.Book.MOST_CONSEQUENCES law l r first;
+      consequences = none_clash m g.B.Book.MOST_CONSEQUENCES law l r first;
     }

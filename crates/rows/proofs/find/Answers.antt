@@ -4,7 +4,7 @@ use Rattle.std.specs.List.Sorted.{IsBinarySearchResult}
 use Rattle.std.proofs.lemmas.List.Sorted.{searched}
 use Rattle.rows.specs.Rows.{Ascending, Placed}
 use Rattle.rows.proofs.Ascents.{ascending_up}
-use Rattle.rows.proofs.search.Goals as goal
+use Rattle.rows.proofs.find.Goals as goal
 use Rattle.std.specs.Ordering.{nat_cmp}
 use Rattle.std.specs.FinMap.{nat_cmp-IsAntisymmetric}
 use Rattle.std.specs.declared.cmp.Ordering.TheVariants.{Equal}
