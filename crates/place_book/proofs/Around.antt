@@ -1,23 +1,26 @@
 -- The places in which a place lies: one more at the end for each step down.
-use Rattle.std.specs.Prelude.{◌≡◌, ℕ, ◌+◌, ◌<◌, ◌≤◌, List, [], ◌∷◌, ◌++◌, length, slice_index, refl}
-use Rattle.std.proofs.Common.{sym, ap, subst, ◌∙◌, inl, inr, arith}
-use Rattle.std.specs.List.{ContainsAt as Has}
-use Rattle.std.proofs.ByRecursion.{has_append_left, has_push, has_push_cases}
-use Rattle.std.proofs.lemmas.List.{length_push, get_or_push, get_or_append_left}
-use Rattle.std.proofs.lemmas.Bool.{cases_eq, cases_lt}
+use Rattle.std.specs.Prelude.{◌≡◌, ℕ, ◌<◌, ◌≤◌, List, [], ◌∷◌, ◌++◌, length, slice_index, Some, None, Option, ◌↔◌, IsTrue, ◌==◌, nat_le, zero, suc, refl, false}
+use Rattle.std.proofs.Common.{eqb, sym, subst, inl, inr, arith}
+use Rattle.std.specs.List.{find, Contains}
+use Rattle.std.specs.Option.{option_eq}
+use Rattle.std.proofs.lemmas.List.Elements.{Contains-append_left, Contains-push, Contains-push_cases}
+use Rattle.std.proofs.lemmas.List.{reverse-append}
+use Rattle.std.proofs.lemmas.Bool.{cases_eq, cases_lt, both_ways, le-leb, lt-leb}
+use Rattle.std.proofs.lemmas.Bool.Decides.{Decides-like, Decides-eqb}
 use Rattle.rows.proofs.Members.{has_head, has_one, has_none}
 use Rattle.rows.proofs.Ascents.{ascending_none, ascending_cons, ascending_push, same_rows}
-use Rattle.place_book.specs.Places.{ParentsAreSmaller}
+use Rattle.place_book.specs.Places.{ParentsAreSmaller, ParentOf, Within}
 use Rattle.place_book.specs.Places.Within.{itself, parent}
 use Rattle.place_book.specs.Meaning.{places_around}
+use Rattle.place_book.specs.Climbs.{climb_from}
 use Rattle.place_book.specs.Tree.{within_le, within_up}
 use Rattle.place_book.specs.Around.{around_ascends, around_has, has_around}
 
 module _ (ps : List ℕ) (smaller : ParentsAreSmaller ps) where
   pub around_plant : 0 < length ps → places_around ps 0 ≡ 0 ∷ []
   around_plant k = same_rows (places_around ps 0) (0 ∷ []) (around_ascends ps 0) (ascending_cons 0 [] ascending_none (λ c h. absurd (has_none h)))
-      (λ q h. let e : q ≡ 0 = omega (arith, within_le ps smaller (around_has ps smaller 0 q k h)) in subst (λ z. Has (0 ∷ []) z) (sym e) (has_head 0 []))
-      (λ q h. subst (λ z. Has (places_around ps 0) z) (has_one 0 h) (has_around ps smaller 0 0 k itself))
+      (λ q h. let e : q ≡ 0 = omega (arith, within_le ps smaller (around_has ps smaller 0 q k h)) in subst (λ z. Contains (0 ∷ []) z) (sym e) (has_head 0 []))
+      (λ q h. subst (λ z. Contains (places_around ps 0) z) (has_one 0 h) (has_around ps smaller 0 0 k itself))
 
   pub around_below : (p : ℕ) → 0 < p → p < length ps → places_around ps p ≡ places_around ps (slice_index ps p) ++ (p ∷ [])
   around_below p h k =
@@ -26,46 +29,45 @@ module _ (ps : List ℕ) (smaller : ParentsAreSmaller ps) where
       same_rows (places_around ps p) (places_around ps up ++ (p ∷ [])) (around_ascends ps p)
       (ascending_push (places_around ps up) p (around_ascends ps up) (λ c m. omega (arith, smaller p h k, within_le ps smaller (around_has ps smaller up c ku m))))
       (λ q m. let u = around_has ps smaller p q k m in elim (cases_eq q p) [
-        | inl e ↦ subst (λ z. Has (places_around ps up ++ (p ∷ [])) z) (sym e) (has_push (places_around ps up) p)
-        | inr ne ↦ has_append_left (places_around ps up) (p ∷ []) q (has_around ps smaller up q ku (within_up ps smaller u (omega (arith, within_le ps smaller u, ne))))
+        | inl e ↦ subst (λ z. Contains (places_around ps up ++ (p ∷ [])) z) (sym e) (Contains-push (places_around ps up) p)
+        | inr ne ↦ Contains-append_left (places_around ps up) (p ∷ []) q (has_around ps smaller up q ku (within_up ps smaller u (omega (arith, within_le ps smaller u, ne))))
       ])
-      (λ q m. elim (has_push_cases (places_around ps up) p q m) [
+      (λ q m. elim (Contains-push_cases (places_around ps up) p q m) [
         | inl r ↦ has_around ps smaller p q k (parent h k (around_has ps smaller up q ku r))
-        | inr e ↦ subst (λ z. Has (places_around ps p) z) e (has_around ps smaller p p k itself)
+        | inr e ↦ subst (λ z. Contains (places_around ps p) z) e (has_around ps smaller p p k itself)
       ])
 
-  -- one climb: one place less, and the others as they were
-  pub around_length : (p : ℕ) → 0 < p → p < length ps → length (places_around ps p) ≡ length (places_around ps (slice_index ps p)) + 1
-  around_length p h k = ap length (around_below p h k) ∙ length_push (places_around ps (slice_index ps p)) p
+  -- a climb: the place itself, and then the climb from its parent
+  pub climb_on : (p : ℕ) (q : Option ℕ) → p < length ps → ParentOf ps p q → climb_from ps (Some p) ≡ p ∷ climb_from ps q
+  climb_on p None k none = let e : p ≡ 0 = elim none [ inl z ↦ z | inr past ↦ omega arith ] in rw (e, around_plant (omega arith)) refl
+  climb_on p (Some q) k up = rw (up.2, around_below p up.0 k) (reverse-append (places_around ps (slice_index ps p)) (p ∷ []))
 
-  pub around_keeps : (p i : ℕ) → 0 < p → p < length ps → i < length (places_around ps (slice_index ps p)) → slice_index (places_around ps p) i ≡ slice_index (places_around ps (slice_index ps p)) i
-  around_keeps p i h k lt = ap (λ l. slice_index l i) (around_below p h k) ∙ get_or_append_left (places_around ps (slice_index ps p)) (p ∷ []) 0 i lt
+  parent_of : (p : ℕ) → p < length ps → (q : Option ℕ) × ParentOf ps p q
+  parent_of p k = elim (cases_lt 0 p) [ inl h ↦ (Some (slice_index ps p), (h, k, refl, smaller p h k)) | inr z ↦ (None, inl (omega arith)) ]
 
-  -- the place itself stands last
-  pub around_last : (p i : ℕ) → p < length ps → length (places_around ps p) ≡ i + 1 → slice_index (places_around ps p) i ≡ p
-  around_last p i k e = elim (cases_lt 0 p) [
-    | inl h ↦ ap (λ l. slice_index l i) (around_below p h k) ∙ get_or_push (places_around ps (slice_index ps p)) p 0 i (omega (arith, around_length p h k))
-    | inr z ↦ let zero_p : p ≡ 0 = omega arith in
-        let one = around_plant (omega arith) in
-        let zero_i : i ≡ 0 = omega (arith, e, ap (λ x. length (places_around ps x)) zero_p, ap length one) in
-        rw (zero_p, zero_i, one) refl
+  -- the first place of a climb that is not larger than q is q itself exactly where the climb begins within q
+  abbrev Finds : ℕ → ℕ → Type 0
+  Finds p q = IsTrue (option_eq eqb (find (λ at. nat_le at q) (climb_from ps (Some p))) (Some q)) ↔ Within ps p q
+
+  found_here : (p q : ℕ) → p ≤ q → p < length ps → Finds p q
+  found_here p q le k =
+      let up = parent_of p k in
+      rw (climb_on p up.0 k up.1, le-leb p q le) (Decides-like (p == q) (λ e. subst (Within ps p) e itself) (λ u. omega (arith, within_le ps smaller u)) (Decides-eqb p q))
+
+  found_from : (n p q : ℕ) → p ≤ n → p < length ps → Finds p q
+  found_from zero p q le k = found_here p q (omega arith) k
+  found_from (suc n) p q le k = elim (cases_lt q p) [
+    | inl lt ↦
+        let h : 0 < p = omega arith in
+        let up = smaller p h k in
+        let above = found_from n (slice_index ps p) q (omega arith) (omega arith) in
+        rw (climb_on p (Some (slice_index ps p)) k (h, k, refl, up), lt-leb p q lt) (Decides-like _ (λ u. parent h k u) (λ u. within_up ps smaller u lt) above)
+    | inr ge ↦ found_here p q ge k
   ]
 
-  pub around_many : (p : ℕ) → p < length ps → 1 < length (places_around ps p) → 0 < p
-  around_many p k many = elim (cases_lt 0 p) [
-    | inl h ↦ h
-    | inr z ↦ let e : p ≡ 0 = omega arith in absurd (omega (arith, ap (λ x. length (places_around ps x)) e, ap length (around_plant (omega arith))))
+  pub found_tells : (p q : ℕ) (l : List ℕ) → (p < length ps → l ≡ climb_from ps (Some p)) → (length ps ≤ p → l ≡ [])
+      → IsTrue (option_eq eqb (find (λ at. nat_le at q) l) (Some q)) ↔ ((p < length ps) × Within ps p q)
+  found_tells p q l stands missing = elim (cases_lt p (length ps)) [
+    | inl k ↦ rw (stands k) (Decides-like _ (λ u. (k, u)) (λ w. w.1) (found_from p p q (omega arith) k))
+    | inr past ↦ rw (missing past) ((λ e. absurd (both_ways false refl e)), λ w. absurd (omega (arith, w.0)))
   ]
-
-  pub around_one : (p : ℕ) → p ≤ 0 → p < length ps → length (places_around ps p) ≡ 1
-  around_one p le k = let e : p ≡ 0 = omega arith in ap (λ x. length (places_around ps x)) e ∙ ap length (around_plant (omega arith))
-
--- A climb from `place`, which lies in `depth` places, toward number k of them, at turn `turn` of those from k + 1 on.
-pub record Reached (ps : List ℕ) (place depth k at turn : ℕ) : Type 0 where
-  pub stands : at < length ps
-  -- one place less for each turn
-  pub fewer : length (places_around ps at) + turn ≡ depth + k + 1
-  -- number k is the same
-  pub same : slice_index (places_around ps at) k ≡ slice_index (places_around ps place) k
-  pub bound : at ≤ place
-  pub turns : turn ≤ depth

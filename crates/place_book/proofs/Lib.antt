@@ -1,4 +1,4 @@
-pub mod Tree
 pub mod Around
-pub mod Facts
+pub mod Climbing
+pub mod Following
 pub mod Laws

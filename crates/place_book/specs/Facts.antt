@@ -1,6 +1,6 @@
 -- The facts of a place book, and what they mean.
 use Rattle.std.specs.Prelude.{◌≡◌, ℕ, ◌+◌, ◌*◌, ◌/◌, ◌%◌, ◌<◌, ◌≤◌, Bool, true, false, ◌&&◌, ◌⊎◌, ◌↔◌, List, length, Some, None, Option, nat_lt}
-use Rattle.std.specs.List.{ContainsAt as Has}
+use Rattle.std.specs.List.{Contains}
 use Rattle.rows.specs.Rows.{Ascending}
 use Rattle.place_book.specs.Places.{Within}
 
@@ -47,7 +47,7 @@ pub record FactFollows (ps : List ℕ) (a c : ℕ) : Type 0 where
 -- l lists what follows from a in ascending order
 pub record ListsFollowing (ps : List ℕ) (a : ℕ) (l : List ℕ) : Type 0 where
   pub ascends : Ascending l
-  pub has : (c : ℕ) → Has l c ↔ FactFollows ps a c
+  pub has : (c : ℕ) → Contains l c ↔ FactFollows ps a c
 
 -- two known facts of one thing clash if neither place is the other or above it
 pub record FactsClash (ps : List ℕ) (a b : ℕ) : Type 0 where

@@ -1,11 +1,11 @@
 -- A book of places keeps the laws of every book.
 use Rattle.std.specs.Prelude.{◌≡◌, ℕ, ◌≤◌, true, false, List, [], ◌∷◌, length, refl}
 use Rattle.std.proofs.Common.{sym, ap, subst, ◌∙◌, inl, inr, arith}
-use Rattle.std.specs.List.{ContainsAt as Has}
-use Rattle.std.proofs.lemmas.Bool.{cases_Bool, both_ways}
+use Rattle.std.specs.List.{Contains}
+use Rattle.std.proofs.lemmas.Bool.{cases_Bool, both_ways, false_from_ne_true}
 use Rattle.rows.proofs.Members.{has_head, has_tail, has_cases, has_one}
 use Rattle.book.specs.Meaning.{Meaning, Lawful, FollowsFromOne, AllKnown, NothingClashes}
-use Rattle.rows.proofs.Tests.{false_from_not_true}
+use Rattle.std.proofs.lemmas.Option.{same_Some}
 use Rattle.place_book.specs.Places.{ParentsAreSmaller, Within}
 use Rattle.place_book.specs.Places.Within.{itself}
 use Rattle.place_book.specs.Meaning.{consequences, clash, place_meaning}
@@ -13,21 +13,21 @@ use Rattle.place_book.specs.Facts.{place_of, known, World, Holds}
 use Rattle.place_book.specs.Tree.{within_trans, within_chain}
 use Rattle.place_book.specs.Around.{around_few}
 use Rattle.place_book.specs.FactsLemmas.{known_parts, consequences_unknown, has_consequence, consequence_has, follows_known, clash_tells, ascending_consequences, consequences_count}
-use Rattle.place_book.specs.Worlds.{some_same, world_of, world_exact}
+use Rattle.place_book.specs.Worlds.{world_of, world_exact}
 
 module _ (ps : List ℕ) (smaller : ParentsAreSmaller ps) where
   abbrev m : Meaning
   m = place_meaning ps
 
   -- what holds of both holds of each of a list of two
-  of_two : (P : ℕ → Type 0) (a b : ℕ) → P a → P b → (c : ℕ) → Has (a ∷ b ∷ []) c → P c
+  of_two : (P : ℕ → Type 0) (a b : ℕ) → P a → P b → (c : ℕ) → Contains (a ∷ b ∷ []) c → P c
   of_two P a b pa pb c h = elim (has_cases a (b ∷ []) h) [
     | inl e ↦ subst P e pa
     | inr r ↦ subst P (has_one b r) pb
   ]
 
   pub clash_itself : (a : ℕ) → clash ps a a ≡ false
-  clash_itself a = false_from_not_true (clash ps a a) (λ e. ((clash_tells ps smaller a a).0 e).not_within itself)
+  clash_itself a = false_from_ne_true (clash ps a a) (λ e. ((clash_tells ps smaller a a).0 e).not_within itself)
 
   clash_turned : (a b : ℕ) → clash ps a b ≡ true → clash ps b a ≡ true
   clash_turned a b e =
@@ -37,7 +37,7 @@ module _ (ps : List ℕ) (smaller : ParentsAreSmaller ps) where
   pub clash_holds_nowhere : (a b : ℕ) → clash ps a b ≡ true → (w : World ps) → Holds ps w a → Holds ps w b → ⊥
   clash_holds_nowhere a b e w ha hb =
       let s = (clash_tells ps smaller a b).0 e in
-      let seat : ha.0 ≡ hb.0 = some_same (sym ha.1 ∙ ap w.seat s.same_thing ∙ hb.1) in
+      let seat : ha.0 ≡ hb.0 = same_Some ha.0 hb.0 (sym ha.1 ∙ ap w.seat s.same_thing ∙ hb.1) in
       elim (within_chain ha.2 (subst (λ x. Within ps x (place_of b)) (sym seat) hb.2)) [
         | inl u ↦ s.not_within u
         | inr u ↦ s.not_around u
@@ -47,12 +47,12 @@ module _ (ps : List ℕ) (smaller : ParentsAreSmaller ps) where
   holds_nowhere_clash a b ka kb nowhere = elim (cases_Bool (clash ps a b)) [
     | inl e ↦ e
     | inr none ↦
-        let turned = false_from_not_true (clash ps b a) (λ e. both_ways _ none (clash_turned b a e)) in
+        let turned = false_from_ne_true (clash ps b a) (λ e. both_ways _ none (clash_turned b a e)) in
         let l : List ℕ = a ∷ b ∷ [] in
         let k : AllKnown m l = of_two (λ c. known ps c ≡ true) a b ka kb in
         let peace : NothingClashes m l = λ x y hx hy. of_two (λ z. clash ps z y ≡ false) a b (of_two (λ z. clash ps a z ≡ false) a b (clash_itself a) none y hy) (of_two (λ z. clash ps b z ≡ false) a b turned (clash_itself b) y hy) x hx in
         let exact = world_exact ps smaller l k peace in
-        let itself_of : (c : ℕ) → Has l c → known ps c ≡ true → FollowsFromOne m l c = λ c h kc. (c, h, has_consequence ps smaller c c (record { known_cause = kc; same_thing = refl; within = itself })) in
+        let itself_of : (c : ℕ) → Contains l c → known ps c ≡ true → FollowsFromOne m l c = λ c h kc. (c, h, has_consequence ps smaller c c (record { known_cause = kc; same_thing = refl; within = itself })) in
         absurd (nowhere (world_of ps smaller l k) ((exact a).1 (itself_of a (has_head a (b ∷ [])) ka)) ((exact b).1 (itself_of b (has_tail a (b ∷ []) (has_head b [])) kb)))
   ]
 

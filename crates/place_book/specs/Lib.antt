@@ -2,6 +2,7 @@ pub mod Places
 pub mod Facts
 pub mod Meaning
 pub mod View
+pub mod Climbs
 pub mod Refusals
 pub mod Printed
 pub mod Tree

@@ -1,6 +1,6 @@
 -- The meaning of the book of places ps: its worlds, and the tests by which it answers.
 -- The contracts of the book's calls say that the answers by these tests are exactly `FactFollows` and `FactsClash`.
-use Rattle.std.specs.Prelude.{ℕ, zero, suc, Bool, cond, not, ◌&&◌, ◌||◌, List, [], map, length, filter, ◌==◌, nat_lt, slice_index}
+use Rattle.std.specs.Prelude.{ℕ, zero, suc, Bool, if◌then◌else◌, not, ◌&&◌, ◌||◌, List, [], map, length, filter, ◌==◌, nat_lt, slice_index}
 use Rattle.std.specs.List.{range_with_len}
 use Rattle.book.specs.Meaning.{Meaning}
 use Rattle.place_book.specs.Facts.{code_of, thing_of, place_of, known, World, Holds}
@@ -19,7 +19,7 @@ places_around ps p = filter (within ps p) (range_with_len 0 (length ps))
 
 -- what follows from a fact, ascending
 abbrev pub consequences : List ℕ → ℕ → List ℕ
-consequences ps c = cond (known ps c) (map (code_of (thing_of c)) (places_around ps (place_of c))) []
+consequences ps c = if known ps c then map (code_of (thing_of c)) (places_around ps (place_of c)) else []
 
 -- whether two facts clash
 abbrev pub clash : List ℕ → ℕ → ℕ → Bool

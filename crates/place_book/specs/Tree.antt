@@ -1,14 +1,10 @@
 -- Lemmas on places that lie within others, and on the test of it.
-use Rattle.std.specs.Prelude.{◌≡◌, ℕ, zero, suc, ◌<◌, ◌≤◌, true, ◌⊎◌, List, length, take, Decides, ◌==◌, nat_lt, slice_index, refl}
+use Rattle.std.specs.Prelude.{◌≡◌, ℕ, zero, suc, ◌<◌, ◌≤◌, true, ◌⊎◌, List, length, IsTrue, ◌↔◌, ◌==◌, nat_lt, slice_index, refl}
 use Rattle.std.proofs.Common.{subst, inl, inr, arith}
-use Rattle.std.proofs.lemmas.List.{length-take}
 use Rattle.std.proofs.lemmas.Bool.{eqb-true, eq-eqb, ltb-true, lt-ltb, or_cases, or_left, or_right, and_parts, and_from}
 use Rattle.place_book.specs.Places.{ParentsAreSmaller, Within}
 use Rattle.place_book.specs.Places.Within.{itself, parent}
 use Rattle.place_book.specs.Meaning.{within_by, within}
-
-pub few_places : (n : ℕ) (parents : List ℕ) → n ≤ 256 → length (take n parents) ≤ 256
-few_places n parents few = omega (arith, length-take n parents)
 
 pub within_trans : {ps : List ℕ} {p q r : ℕ} → Within ps p q → Within ps q r → Within ps p r
 within_trans itself v = v
@@ -52,5 +48,5 @@ module _ (ps : List ℕ) (smaller : ParentsAreSmaller ps) where
   whole zero (parent h k u) le = absurd (omega arith)
   whole (suc n) {p} {q} (parent h k u) le = or_right (p == q) _ (and_from (nat_lt 0 p) _ (lt-ltb 0 p h) (whole n u (omega (arith, smaller p h k))))
 
-  pub within_tells : (p q : ℕ) → p < length ps → Decides (within ps p q) (Within ps p q)
+  pub within_tells : (p q : ℕ) → p < length ps → IsTrue (within ps p q) ↔ Within ps p q
   within_tells p q k = (sound p p q k, λ u. whole p u (omega arith))

@@ -1,10 +1,6 @@
 -- The places of a draft and of a book, as the list of their parents.
-use Rattle.std.specs.Prelude.{ℕ, List, take}
-use Rattle.place_book.specs.declared.Draft.{Draft}
-use Rattle.place_book.specs.declared.PlaceBook.{PlaceBook}
+use Rattle.std.specs.Prelude.{ℕ, List}
+use Rattle.place_book.specs.declared.places.Places.{Places}
 
-abbrev pub draft_places : Draft → List ℕ
-draft_places d = take d.count d.parents
-
-abbrev pub book_places : PlaceBook → List ℕ
-book_places b = take b.count b.parents
+abbrev pub parents_of : {S : Type 0} → Places S → List ℕ
+parents_of p = p.parents.items

@@ -1,13 +1,12 @@
 -- The world of a list of facts in which nothing clashes.
-use Rattle.std.specs.Prelude.{◌≡◌, ℕ, ◌≤◌, max, true, false, cond, ◌⊎◌, ◌↔◌, List, [], ◌∷◌, Some, None, Option, ◌==◌, ◌≢◌, refl}
-use Rattle.std.proofs.Math.Path.{sym, subst}
-use Rattle.std.proofs.Common.{ap, ◌∙◌, inl, inr, arith}
-use Rattle.std.specs.List.{ContainsAt as Has}
+use Rattle.std.specs.Prelude.{◌≡◌, ℕ, ◌≤◌, max, true, false, if◌then◌else◌, ◌⊎◌, ◌↔◌, List, [], ◌∷◌, Some, None, Option, ◌==◌, ◌≢◌, refl}
+use Rattle.std.proofs.Common.{sym, subst, ap, ◌∙◌, inl, inr, arith}
+use Rattle.std.specs.List.{Contains}
 use Rattle.std.proofs.lemmas.Bool.{cases_Bool, both_ways, eq-eqb, ne_eqb, cond-true, cond-false, cases_eq}
 use Rattle.std.proofs.lemmas.Bool.Decides.{not_from_Decides}
 use Rattle.rows.proofs.Members.{has_none, has_head, has_tail, has_cases}
 use Rattle.book.specs.Meaning.{Meaning, FollowsFromOne, AllKnown, NothingClashes}
-use Rattle.rows.proofs.Tests.{some_not_none}
+use Rattle.std.proofs.lemmas.Option.{none-some, same_Some}
 use Rattle.place_book.specs.Places.{ParentsAreSmaller, Within}
 use Rattle.place_book.specs.Places.Within.{itself}
 use Rattle.place_book.specs.Meaning.{within, clash, place_meaning}
@@ -22,14 +21,11 @@ deeper p (Some s) = max p s
 
 abbrev seat_of : List ℕ → ℕ → Option ℕ
 seat_of [] a = None
-seat_of (d ∷ l) a = cond (thing_of d == a) (Some (deeper (place_of d) (seat_of l a))) (seat_of l a)
+seat_of (d ∷ l) a = if thing_of d == a then Some (deeper (place_of d) (seat_of l a)) else seat_of l a
 
 -- the list names place s for thing a
 abbrev Named : List ℕ → ℕ → ℕ → Type 0
-Named l a s = (d : ℕ) × Has l d × (thing_of d ≡ a) × (place_of d ≡ s)
-
-pub some_same : {x y : ℕ} → Some x ≡ Some y → x ≡ y
-some_same e = cc
+Named l a s = (d : ℕ) × Contains l d × (thing_of d ≡ a) × (place_of d ≡ s)
 
 cases_max : (x y : ℕ) → (max x y ≡ x) ⊎ (max x y ≡ y)
 cases_max x y = elim (cases_eq (max x y) x) [ inl e ↦ inl e | inr n ↦ inr (omega (arith, n)) ]
@@ -52,9 +48,9 @@ seat_elsewhere d l a other = cond-false (thing_of d == a) _ _ (ne_eqb (thing_of 
 
 -- the seat is a place that the list names
 seat_named : (l : List ℕ) (a s : ℕ) → seat_of l a ≡ Some s → Named l a s
-seat_named [] a s e = absurd (some_not_none (sym e))
+seat_named [] a s e = absurd (none-some s e)
 seat_named (d ∷ l) a s e = elim (cases_eq (thing_of d) a) [
-  | inl q ↦ subst (Named (d ∷ l) a) (some_same (sym (seat_here d l a q) ∙ e)) (named_here d l a (seat_of l a) q (seat_named l a))
+  | inl q ↦ subst (Named (d ∷ l) a) (same_Some _ _ (sym (seat_here d l a q) ∙ e)) (named_here d l a (seat_of l a) q (seat_named l a))
   | inr n ↦ named_later d l a s (seat_named l a s (sym (seat_elsewhere d l a n) ∙ e))
 ]
 
@@ -64,10 +60,10 @@ deeper_here p None = omega arith
 deeper_here p (Some t) = omega arith
 
 deeper_later : (p s : ℕ) (o : Option ℕ) → o ≡ Some s → s ≤ deeper p o
-deeper_later p s None e = absurd (some_not_none (sym e))
-deeper_later p s (Some t) e = omega (arith, some_same e)
+deeper_later p s None e = absurd (none-some s e)
+deeper_later p s (Some t) e = omega (arith, same_Some t s e)
 
-seat_deepest : (l : List ℕ) (c : ℕ) → Has l c → (s : ℕ) × (seat_of l (thing_of c) ≡ Some s) × (place_of c ≤ s)
+seat_deepest : (l : List ℕ) (c : ℕ) → Contains l c → (s : ℕ) × (seat_of l (thing_of c) ≡ Some s) × (place_of c ≤ s)
 seat_deepest [] c h = absurd (has_none h)
 seat_deepest (d ∷ l) c h =
     let a = thing_of c in

@@ -1,15 +1,10 @@
-use Rattle.std.proofs.lemmas.Bool.Decides.{same_from_decides}
-use Rattle.place_book.specs.Meaning.{clash}
-use Rattle.place_book.specs.View.{book_places}
-use Rattle.place_book.specs.FactsLemmas.{clash_tells}
-use Rattle.place_book.proofs.Laws.{clash_in_worlds}
+use Rattle.std.proofs.Common.{rules}
+use Rattle.place_book.specs.View.{parents_of}
+use Rattle.place_book.proofs.Laws.{clash_told}
 use Rattle.place_book.proofs.answers.PlaceBookBook.clash.Goals as goal
 
-pub returns : goal.returns
-returns c =
-    let b = c.args.self.now in
-    let first = c.args.first in
-    let second = c.args.second in
-    let r = c.facts_clash.result in
-    let same = same_from_decides r (clash (book_places b) first second) c.facts_clash.ensures (clash_tells (book_places b) b.smaller first second) in
-    record { tested = same; apart = c.facts_clash.ensures; worlds = clash_in_worlds (book_places b) b.smaller first second r same }
+pub returns-then-not-is_within : goal.returns-then-not-is_within
+returns-then-not-is_within c = let b = c.args.self.now in clash_told (parents_of b) b.smaller c.args.first c.args.second _ (search rules)
+
+pub returns-else-not-is_within : goal.returns-else-not-is_within
+returns-else-not-is_within c = let b = c.args.self.now in clash_told (parents_of b) b.smaller c.args.first c.args.second _ (search rules)

@@ -1,18 +1,16 @@
-use Rattle.std.proofs.Common.{length, sym, ap, ◌∙◌}
+use Rattle.std.proofs.Common.{refl, sym, ap, ◌∙◌, length}
+use Rattle.std.proofs.lemmas.Iterator.Consumers.{YieldsList-from_first, count_from_yields_List}
+use Rattle.place_book.specs.View.{parents_of}
 use Rattle.place_book.specs.Meaning.{consequences}
-use Rattle.place_book.specs.View.{book_places}
-use Rattle.place_book.specs.FactsLemmas.{consequences_unknown, consequences_count}
-use Rattle.place_book.proofs.Facts.{consequences_list}
+use Rattle.place_book.proofs.Following.{consequences_list, count_climbed}
 use Rattle.place_book.proofs.answers.PlaceBookBook.count_following.Goals as goal
 
-pub returns-then-not-knows : goal.returns-then-not-knows
-returns-then-not-knows c =
+pub returns-in-Some : goal.returns-in-Some
+returns-in-Some c =
     let b = c.args.self.now in
-    let none = sym (ap length (consequences_unknown (book_places b) c.args.fact (sym c.if-not-knows.ensures))) in
-    record { listed = none; above = (consequences (book_places b) c.args.fact, consequences_list (book_places b) b.smaller c.args.fact, none) }
-
-pub returns : goal.returns
-returns c =
-    let b = c.args.self.now in
-    let count = c.depth.ensures ∙ sym (consequences_count (book_places b) b.smaller c.args.fact (sym c.if-not-knows.ensures)) in
-    record { listed = count; above = (consequences (book_places b) c.args.fact, consequences_list (book_places b) b.smaller c.args.fact, count) }
+    let ps = parents_of b in
+    let fact = c.args.fact in
+    let parts = c.in-Some.ensures in
+    let count = count_from_yields_List c.climb.result c.count.result c.count.ensures.ran (YieldsList-from_first (λ at. at) (λ s. s) c.climb.result refl) in
+    let listed = count ∙ ap length (c.climb.ensures.stands parts.1) ∙ sym (count_climbed ps b.smaller b.few fact c.in-Some.field-0-0 c.in-Some.place parts) in
+    record { listed = listed; above = (consequences ps fact, consequences_list ps b.smaller fact, listed) }

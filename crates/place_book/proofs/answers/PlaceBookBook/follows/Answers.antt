@@ -1,12 +1,10 @@
-use Rattle.place_book.specs.View.{book_places}
-use Rattle.place_book.proofs.Facts.{listed}
-use Rattle.place_book.proofs.Laws.{follows_in_worlds}
-use Rattle.place_book.specs.Tree.{few_places}
+use Rattle.std.proofs.Common.{rules}
+use Rattle.place_book.specs.View.{parents_of}
+use Rattle.place_book.proofs.Laws.{follows_told}
 use Rattle.place_book.proofs.answers.PlaceBookBook.follows.Goals as goal
 
-pub returns : goal.returns
-returns c =
-    let b = c.args.self.now in
-    let r = c.fact_follows.result in
-    let list = listed (book_places b) b.smaller c.args.cause c.args.fact r c.fact_follows.ensures in
-    record { listed = list; above = c.fact_follows.ensures; worlds = follows_in_worlds (book_places b) b.smaller (few_places b.count b.parents b.few) c.args.cause c.args.fact r list }
+pub returns-then-below-above : goal.returns-then-below-above
+returns-then-below-above c = let b = c.args.self.now in follows_told (parents_of b) b.smaller b.few c.args.cause c.args.fact _ (search rules)
+
+pub returns-else-below-above : goal.returns-else-below-above
+returns-else-below-above c = let b = c.args.self.now in follows_told (parents_of b) b.smaller b.few c.args.cause c.args.fact _ (search rules)
