@@ -1,76 +1,124 @@
 -- Cells in which a table's facts are laid out.
-use Rattle.std.proofs.Common.{◌≡◌, ℕ, ◌+◌, ◌-◌, ◌≤◌, min, List, ◌++◌, length, take, drop, replicate, sym, refl, ap, ◌∙◌, subst, arith}
-use Rattle.std.proofs.lemmas.List.{append_assoc, length-append, length-drop, length-replicate, length-take-le, replicate-append-replicate, take_at, drop_at, drop-drop, drop-append-le, drop-replicate}
+use Rattle.std.proofs.Common.{◌≡◌, ℕ, ◌+◌, ◌-◌, ◌≤◌, min, List, ◌++◌, length, take, drop, replicate, sym, refl, ap, ◌∙◌, arith}
+use Rattle.std.proofs.Math.Seq.{drop-append-add}
+use Rattle.std.proofs.lemmas.Grind.{common_steps}
+use Rattle.std.proofs.lemmas.List.{append_assoc, length-replicate, length-take-le, replicate-append-replicate, take_all, take_at, drop_all, take-append-le, take-append-drop, drop_at, drop-append-le, drop-replicate}
 use Rattle.rows.specs.Rows.{Ascending}
 use Rattle.table.specs.Cells.{used, laid}
-
--- what a table keeps of its cells: its ghost fields
-pub record Kept (cells : List ℕ) (held : ℕ) : Type 0 where
-  pub fits : held ≤ used cells
-  pub ascends : Ascending (take held cells)
-  pub layout : cells ≡ laid (take held cells) cells
+use Rattle.table.specs.View.{cells_of, facts_of, KeepsCells}
+use Rattle.table.specs.declared.Table.{Table}
 
 module _ (facts cells : List ℕ) (fits : length facts ≤ used cells) where
-  abbrev zeros : List ℕ
-  zeros = replicate (used cells - length facts) 0
-
-  zeros_long : length zeros ≡ used cells - length facts
-  zeros_long = length-replicate (used cells - length facts) 0
-
-  used_part : length (facts ++ zeros) ≡ used cells
-  used_part = length-append facts zeros ∙ omega (arith, zeros_long)
-
-  laid_parts : laid facts cells ≡ (facts ++ zeros) ++ drop (used cells) cells
-  laid_parts = sym (append_assoc facts zeros (drop (used cells) cells))
-
   length-laid : length (laid facts cells) ≡ length cells
-  length-laid = ap length laid_parts ∙ length-append (facts ++ zeros) (drop (used cells) cells) ∙ omega (arith, used_part, length-drop (used cells) cells)
+  length-laid = grind (arith, common_steps)
 
   pub used-laid : used (laid facts cells) ≡ used cells
   used-laid = ap (λ n. min n 65536) length-laid
 
+  rest-laid : drop (used cells) (laid facts cells) ≡ drop (used cells) cells
+  rest-laid =
+      let zeros : List ℕ = replicate (used cells - length facts) 0 in
+      rw (← append_assoc facts zeros (drop (used cells) cells)) (drop_at (facts ++ zeros) (drop (used cells) cells) (used cells) (grind (arith, common_steps)))
+
+  -- the facts stand in front
   pub take-laid : take (length facts) (laid facts cells) ≡ facts
-  take-laid = take_at facts (zeros ++ drop (used cells) cells) (length facts) refl
+  take-laid = take_at facts (replicate (used cells - length facts) 0 ++ drop (used cells) cells) (length facts) refl
 
   -- laid out once more
   pub laid-laid : (others : List ℕ) → laid others (laid facts cells) ≡ laid others cells
-  laid-laid others =
-      let rest : drop (used cells) (laid facts cells) ≡ drop (used cells) cells = ap (drop (used cells)) laid_parts ∙ drop_at (facts ++ zeros) (drop (used cells) cells) (used cells) used_part in
-      ap (λ n. others ++ (replicate (n - length others) 0 ++ drop n (laid facts cells))) used-laid ∙ ap (λ l. others ++ (replicate (used cells - length others) 0 ++ l)) rest
+  laid-laid others = rw (used-laid, rest-laid) refl
 
-  pub kept_laid : Ascending facts → Kept (laid facts cells) (length facts)
-  kept_laid up = record { fits = omega (arith, used-laid); ascends = subst Ascending (sym take-laid) up; layout = sym (laid-laid facts) ∙ ap (λ l. laid l (laid facts cells)) (sym take-laid) }
+pub facts_long : (t : Table) → length (facts_of t) ≡ t.held
+facts_long t = length-take-le t.held (cells_of t) (omega (arith, t.fits))
 
--- with other names for the cells and their number
-pub kept_at : (facts cells cells' : List ℕ) (n : ℕ) → cells' ≡ laid facts cells → n ≡ length facts → length facts ≤ used cells → Ascending facts → Kept cells' n
-kept_at facts cells cells' n is long fits up = subst (λ k. Kept cells' k) (sym long) (subst (λ l. Kept l (length facts)) (sym is) (kept_laid facts cells fits up))
+module _ (facts rest : List ℕ) where
+  -- behind the facts, and behind room for j more of them
+  behind : (z j : ℕ) → j ≤ z → drop (length facts + j) (facts ++ (replicate z 0 ++ rest)) ≡ replicate (z - j) 0 ++ rest
+  behind z j le =
+      let zeros : List ℕ = replicate z 0 in
+      let within : j ≤ length zeros = omega (arith, length-replicate {A = ℕ} z 0) in
+      rw (drop-append-add facts (zeros ++ rest) j, drop-append-le j zeros rest within, drop-replicate {X = ℕ} j z 0) refl
 
-pub facts_at : (facts cells cells' : List ℕ) (n : ℕ) → cells' ≡ laid facts cells → n ≡ length facts → length facts ≤ used cells → take n cells' ≡ facts
-facts_at facts cells cells' n is long fits = ap (λ k. take k cells') long ∙ ap (take (length facts)) is ∙ take-laid facts cells fits
+  one_run : (a b c : ℕ) → a + b ≡ c → (facts ++ replicate a 0) ++ (replicate b 0 ++ rest) ≡ facts ++ (replicate c 0 ++ rest)
+  one_run a b c e = rw (append_assoc facts (replicate a 0) (replicate b 0 ++ rest), ← append_assoc (replicate a 0) (replicate b 0) rest, replicate-append-replicate {A = ℕ} a b 0, e) refl
 
--- behind the facts, and behind the room for more of them, stand the zeros and the rest
-behind : (cells : List ℕ) (held n : ℕ) → held ≤ n → n ≤ used cells → cells ≡ laid (take held cells) cells → drop n cells ≡ replicate (used cells - n) 0 ++ drop (used cells) cells
-behind cells held n le fits is =
-    let u = used cells in
-    let long : length (take held cells) ≡ held = length-take-le held cells (omega arith) in
-    let at_held : drop held cells ≡ replicate (u - held) 0 ++ drop u cells
-    = ap (drop held) is ∙ drop_at (take held cells) _ held long ∙ ap (λ k. replicate (u - k) 0 ++ drop u cells) long in
-    let step : held + (n - held) ≡ n = omega arith in
-    let fewer : u - held - (n - held) ≡ u - n = omega arith in
-    ap (λ k. drop k cells) (sym step) ∙ sym (drop-drop (n - held) held cells) ∙ ap (drop (n - held)) at_held
-    ∙ drop-append-le (n - held) (replicate (u - held) 0) (drop u cells) (omega (arith, length-replicate {A = ℕ} (u - held) 0))
-    ∙ ap (λ l. l ++ drop u cells) (drop-replicate (n - held) (u - held) 0 ∙ ap (λ k. replicate k 0) fewer)
+-- the first k cells are the facts of a table over cells that were laid out for another
+pub record Stands (old after : List ℕ) (k : ℕ) (facts : List ℕ) : Type 0 where
+  pub are : take k after ≡ facts
+  pub laid_out : after ≡ laid (take k after) old
+  pub fits : k ≤ used after
+  pub ascends : Ascending (take k after)
+  pub layout : after ≡ laid (take k after) after
 
--- some facts stay of those held, and the cells behind them are cleared
-pub laid_fewer : (cells facts : List ℕ) (held : ℕ) → held ≤ used cells → cells ≡ laid (take held cells) cells → length facts ≤ held → (facts ++ replicate (held - length facts) 0) ++ drop held cells ≡ laid facts cells
-laid_fewer cells facts held fits is le =
-    let u = used cells in
-    let sum : held - length facts + (u - held) ≡ u - length facts = omega arith in
-    append_assoc facts (replicate (held - length facts) 0) (drop held cells)
-    ∙ ap (λ l. facts ++ (replicate (held - length facts) 0 ++ l)) (behind cells held held (omega arith) fits is)
-    ∙ ap (λ l. facts ++ l) (sym (append_assoc (replicate (held - length facts) 0) (replicate (u - held) 0) (drop u cells))
-    ∙ ap (λ l. l ++ drop u cells) (replicate-append-replicate (held - length facts) (u - held) 0 ∙ ap (λ k. replicate k 0) sum))
+-- of a table's cells the first n were lent, among them those with its facts; now they are `row`, of which the first k are facts and the others 0
+module _ (t : Table) (n : ℕ) (all : t.held ≤ n) (room : n ≤ used (cells_of t)) (row : List ℕ) (long : length row ≡ length (take n (cells_of t)))
+    (k : ℕ) (within : k ≤ length row) (zeros : drop k row ≡ replicate (length row - k) 0) (up : Ascending (take k row)) where
+  abbrev cells : List ℕ
+  cells = cells_of t
 
--- more facts stand in the first cells than were held
-pub laid_more : (cells facts : List ℕ) (held : ℕ) → held ≤ length facts → length facts ≤ used cells → cells ≡ laid (take held cells) cells → facts ++ drop (length facts) cells ≡ laid facts cells
-laid_more cells facts held le fits is = ap (λ l. facts ++ l) (behind cells held (length facts) le fits is)
+  abbrev after : List ℕ
+  after = row ++ drop n cells
+
+  abbrev facts : List ℕ
+  facts = take k row
+
+  n_long : length row ≡ n
+  n_long = long ∙ length-take-le n cells (omega arith)
+
+  k_long : length facts ≡ k
+  k_long = length-take-le k row within
+
+  facts_fit : length facts ≤ used cells
+  facts_fit = omega (arith, n_long, k_long)
+
+  rest_is : drop n cells ≡ replicate (used cells - n) 0 ++ drop (used cells) cells
+  rest_is =
+      let place : length (facts_of t) + (n - t.held) ≡ n = omega (arith, facts_long t) in
+      let zeros : used cells - length (facts_of t) - (n - t.held) ≡ used cells - n = omega (arith, facts_long t) in
+      rw (← t.layout, place, zeros) at (behind (facts_of t) (drop (used cells) cells) (used cells - length (facts_of t)) (n - t.held) (omega (arith, facts_long t)))
+
+  laid_anew : after ≡ laid facts cells
+  laid_anew =
+      let parts : row ≡ facts ++ replicate (length row - k) 0 = rw (← zeros) (sym (take-append-drop k row)) in
+      ap (λ l. l ++ drop n cells) parts ∙ rw rest_is (one_run facts (drop (used cells) cells) (length row - k) (used cells - n) (used cells - length facts) (omega (arith, n_long, k_long)))
+
+  facts_are : take k after ≡ facts
+  facts_are = take-append-le k row (drop n cells) within
+
+  stands : Stands cells after k facts
+  stands = record {
+    are = facts_are;
+    laid_out = rw facts_are laid_anew;
+    fits = omega (arith, k_long, facts_fit, ap used laid_anew, used-laid facts cells facts_fit);
+    ascends = rw facts_are up;
+    layout = rw facts_are (rw (← laid_anew) at (sym (laid-laid facts cells facts_fit facts)));
+  }
+
+-- some facts stay, in front of those held, and zeros behind them
+pub stand_fewer : (t : Table) (row : List ℕ) → length row ≡ length (facts_of t) → (k : ℕ) → k ≤ length (facts_of t) → drop k row ≡ replicate (length (facts_of t) - k) 0 → Ascending (take k row) → Stands (cells_of t) (row ++ drop t.held (cells_of t)) k (take k row)
+stand_fewer t row long k within zeros up = stands t t.held (omega arith) t.fits row long k (omega (arith, within, long)) (rw long zeros) up
+
+-- more facts stand in the first cells
+pub stand_more : (t : Table) (come : ℕ) → length (facts_of t) + come ≤ used (cells_of t) → (row : List ℕ) → length row ≡ length (take (t.held + come) (cells_of t)) → Ascending row
+    → Stands (cells_of t) (row ++ drop (t.held + come) (cells_of t)) (t.held + come) row
+stand_more t come room row long up =
+    let n = t.held + come in
+    let fits : n ≤ used (cells_of t) = omega (arith, facts_long t, room) in
+    let n_is : length row ≡ n = long ∙ length-take-le n (cells_of t) (omega arith) in
+    let e : take n row ≡ row = take_all n row (omega arith) in
+    let none : drop n row ≡ replicate (length row - n) 0 = drop_all n row (omega arith) ∙ ap (λ k. replicate k 0) {x = 0} {y = length row - n} (omega arith) in
+    rw e at (stands t n (omega arith) fits row long n (omega arith) none (rw e up))
+
+-- a table that keeps its cells, with no more facts than before
+module _ (old new : Table) (keeps : KeepsCells old new) (fewer : length (facts_of new) ≤ length (facts_of old)) where
+  fits_in_old : length (facts_of new) ≤ used (cells_of old)
+  fits_in_old = omega (arith, fewer, facts_long old, old.fits)
+
+  pub same_used : used (cells_of new) ≡ used (cells_of old)
+  same_used = grind (arith, common_steps)
+
+  pub keeps_on : (last : Table) → KeepsCells new last → KeepsCells old last
+  keeps_on last on = record {
+    laid_out = on.laid_out ∙ ap (laid (facts_of last)) keeps.laid_out ∙ laid-laid (facts_of new) (cells_of old) fits_in_old (facts_of last);
+    named = on.named ∙ keeps.named;
+  }

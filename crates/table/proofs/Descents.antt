@@ -1,118 +1,152 @@
--- How a descent begins, passes a code and finds the largest code that is left.
-use Rattle.std.proofs.Common.{◌≡◌, ℕ, zero, suc, ◌+◌, ◌-◌, ◌^◌, ◌<◌, ◌≤◌, List, [], ◌∷◌, length, get_or, set, Some, None, Option, unwrap_or, sym, refl, ◌∙◌, subst, inl, inr, arith, below_more}
-use Rattle.std.specs.List.{ContainsAt as Has, slice_get}
-use Rattle.std.proofs.ByRecursion.{has_get_or}
-use Rattle.std.proofs.lemmas.List.{get_or-set_same, get_or-set_other}
+-- How a descent takes the largest code that is still to come.
+use Rattle.std.proofs.Common.{◌≡◌, ℕ, suc, ◌-◌, ◌<◌, ◌≤◌, ltb, max, List, [], ◌∷◌, ◌++◌, length, take, drop, get_or, reverse, Some, None, Option, fold, sym, refl, ap, ◌∙◌, subst, inl, inr, arith}
+use Rattle.std.specs.List.{Contains, All, flat_map, filter_map, cons_option, reduce, slice_get}
+use Rattle.std.proofs.lemmas.List.Elements.{Contains-append_left, Contains-append_right, Contains-append_cases, Contains-get_or, All-head, All-tail, filter-append}
+use Rattle.std.proofs.lemmas.List.{append-nil, get_or_default, reverse-append, reverse-reverse, length_push, length-take-le, take-append-drop, take-take, take_at}
+use Rattle.std.proofs.lemmas.Option.{slice_get-get_or}
 use Rattle.std.proofs.lemmas.Bool.{cases_lt}
-use Rattle.rows.specs.Rows.{Ascending}
-use Rattle.rows.proofs.Ascents.{ascending_up}
-use Rattle.book.specs.Meaning.{Meaning, Lawful, Follows, FollowsFromOne}
-use Rattle.table.specs.Descent.{FollowsBelow, Largest, CutAt, DescendsAt, LargestHead}
+use Rattle.rows.specs.Rows.{Ascending, RowOf}
+use Rattle.rows.proofs.Ascents.{ascending_up, ascending_none, ascending_cons, ascending_append, ascending_front, same_rows}
+use Rattle.rows.proofs.Members.{has_none, has_head, has_tail, has_cases}
+use Rattle.book.specs.Meaning.{Meaning, Lawful, FollowsFromOne}
+use Rattle.table.specs.Descent.{row_left, to_come, IsInPlace, Largest, lows, highs, row_of, codes_left}
+use Rattle.table.specs.declared.descent.Cursor.{Cursor}
+use Rattle.table.proofs.Few.{has_flat_map, flat_map_has}
+use Rattle.table.proofs.Cuts.{low_is, high_is, is_low, cut_cases, lows_ascend, highs_ascend, all_low, largest_last}
 
-pub value_or_nth : (xs : List ℕ) (k : ℕ) → unwrap_or (slice_get xs k) 0 ≡ get_or xs k 0
-value_or_nth [] k = refl
-value_or_nth (x ∷ xs) zero = refl
-value_or_nth (x ∷ xs) (suc k) = value_or_nth xs k
+-- the row of a list has its members
+row_of_is : (xs : List ℕ) → RowOf (Contains xs) (row_of xs)
+row_of_is [] = record { ascends = ascending_none; members = λ c. (λ h. h, λ h. h) }
+row_of_is (x ∷ xs) =
+    let row = row_of xs in
+    let r = row_of_is xs in
+    record {
+      ascends = ascending_append (lows x row) (x ∷ highs x row) (lows_ascend x row r.ascends) (ascending_cons x (highs x row) (highs_ascend x row r.ascends) (λ c h. (high_is x row c h).1))
+          (λ c d h k. elim (has_cases x (highs x row) k) [ inl e ↦ omega (arith, (low_is x row c h).1) | inr l ↦ omega (arith, (low_is x row c h).1, (high_is x row d l).1) ]);
+      members = λ c. (
+        λ h. elim (Contains-append_cases (lows x row) (x ∷ highs x row) c h) [
+          | inl k ↦ has_tail x xs ((r.members c).0 (low_is x row c k).0)
+          | inr k ↦ elim (has_cases x (highs x row) k) [ inl e ↦ subst (Contains (x ∷ xs)) e (has_head x xs) | inr l ↦ has_tail x xs ((r.members c).0 (high_is x row c l).0) ]
+        ],
+        λ h. elim (has_cases x xs h) [
+          | inl e ↦ Contains-append_right (lows x row) (x ∷ highs x row) c (subst (Contains (x ∷ highs x row)) e (has_head x (highs x row)))
+          | inr k ↦ elim (cut_cases x row c ((r.members c).1 k)) [
+            | inl l ↦ Contains-append_left (lows x row) (x ∷ highs x row) c l
+            | inr n ↦ Contains-append_right (lows x row) (x ∷ highs x row) c (elim n [ inl e ↦ subst (Contains (x ∷ highs x row)) e (has_head x (highs x row)) | inr g ↦ has_tail x (highs x row) g ])
+          ]
+        ],
+      );
+    }
 
--- all of a row are below the bound
-pub cut_above : (cs : List ℕ) (bound head : ℕ) → ((k : ℕ) → k < length cs → get_or cs k 0 < bound) → (0 < length cs → head ≡ get_or cs (length cs - 1) 0) → CutAt cs bound (length cs) head
-cut_above cs bound head all is = record { within = omega arith; below = all; above = λ k h l. absurd (omega arith); head_is = is }
+-- of a row, what is below c is the row of what is below c
+lows-row_of : (c : ℕ) (xs : List ℕ) → lows c (row_of xs) ≡ row_of (lows c xs)
+lows-row_of c xs =
+    let all = row_of_is xs in
+    let part = row_of_is (lows c xs) in
+    same_rows (lows c (row_of xs)) (row_of (lows c xs)) (lows_ascend c (row_of xs) all.ascends) part.ascends
+    (λ x h. let k = low_is c (row_of xs) x h in (part.members x).1 (is_low c xs x ((all.members x).0 k.0) k.1))
+    (λ x h. let k = low_is c xs x ((part.members x).0 h) in is_low c (row_of xs) x ((all.members x).1 k.0) k.1)
 
-module _ (cs : List ℕ) (up : Ascending cs) (code left head : ℕ) (cut : CutAt cs (code + 1) left head) where
-  -- the largest that is left is the code: one fewer is left
-  pub cut_passed : (next : ℕ) → 0 < left → head ≡ code → (0 < left - 1 → next ≡ get_or cs (left - 1 - 1) 0) → CutAt cs code (left - 1) next
-  cut_passed next some is next_is = record {
-    within = omega (arith, cut.within);
-    below = λ k h. omega (arith, up k (left - 1) h (omega (arith, cut.within)), cut.head_is some);
-    above = λ k h l. omega (arith, ascending_up cs up (left - 1) k h l, cut.head_is some);
-    head_is = next_is;
-  }
+-- from the largest down, the largest of a list comes first, and then those below it
+pub largest_first : (xs : List ℕ) (c : ℕ) → Largest xs (Some c) → reverse (row_of xs) ≡ c ∷ reverse (row_of (lows c xs))
+largest_first xs c l =
+    let row = row_of_is xs in
+    ap reverse (largest_last c (row_of xs) row.ascends ((row.members c).1 l.0) (λ d h. l.1 d ((row.members d).0 h)))
+    ∙ reverse-append (lows c (row_of xs)) (c ∷ []) ∙ ap (λ t. c ∷ reverse t) (lows-row_of c xs)
 
-  -- it is not the code, or none is left
-  pub cut_stays : (0 < left → head ≡ code → ⊥) → CutAt cs code left head
-  cut_stays other = record {
-    within = cut.within;
-    below = λ k h.
-        let last : get_or cs k 0 ≤ get_or cs (left - 1) 0 = ascending_up cs up k (left - 1) (omega arith) (omega (arith, cut.within)) in
-        let low : get_or cs (left - 1) 0 < code + 1 = cut.below (left - 1) (omega arith) in
-        elim (cases_lt head code) [
-          | inl l ↦ omega (arith, cut.head_is (omega arith))
-          | inr l ↦ absurd (other (omega arith) (omega (arith, cut.head_is (omega arith))))
-        ];
-    above = λ k h l. omega (arith, cut.above k h l);
-    head_is = cut.head_is;
-  }
+-- the larger of two numbers, where they are there
+larger : Option ℕ → Option ℕ → Option ℕ
+larger None o = o
+larger (Some a) None = Some a
+larger (Some a) (Some b) = Some (max a b)
 
-module _ (m : Meaning) (most : ℕ) (law : Lawful m most) (list : List ℕ) where
-  -- what follows and is below the bound is still to come, at a place of some fact's consequences
-  to_come : (bound : ℕ) (left heads : List ℕ) → DescendsAt m list bound left heads → (c : ℕ) → FollowsBelow m list bound c
-      → (j : ℕ) × (j < length list) × ((k : ℕ) × (k < get_or left j 0) × (get_or (m.consequences (get_or list j 0)) k 0 ≡ c))
-  to_come bound left heads at c f =
-      let from = f.0.1 in
-      let j = from.0 in
-      let cs = m.consequences (get_or list j 0) in
-      let here : Has cs c = subst (λ d. Follows m d c) (sym (from.2 0)) f.0.2 in
-      let cut = at j from.1 in
-      let low : here.0 < get_or left j 0 = elim (cases_lt here.0 (get_or left j 0)) [
-        | inl l ↦ l
-        | inr l ↦ absurd (omega (arith, cut.above here.0 l here.1, here.2 0, f.1))
-      ] in
-      (j, from.1, (here.0, low, here.2 0))
+fold-max : (a b : ℕ) (xs : List ℕ) → fold max (max a b) xs ≡ max a (fold max b xs)
+fold-max a b [] = refl
+fold-max a b (x ∷ xs) = let e : max (max a b) x ≡ max a (max b x) = omega arith in ap (λ y. fold max y xs) e ∙ fold-max a (max b x) xs
 
-  -- and what is still to come follows and is below the bound
-  comes_below : (bound : ℕ) (left heads : List ℕ) → DescendsAt m list bound left heads → (j k : ℕ) → j < length list → k < get_or left j 0 → FollowsBelow m list bound (get_or (m.consequences (get_or list j 0)) k 0)
-  comes_below bound left heads at j k h l =
-      let cut = at j h in
-      let cs = m.consequences (get_or list j 0) in
-      ((get_or list j 0, has_get_or list j 0 h, has_get_or cs k 0 (omega (arith, cut.within))), cut.below k l)
+reduce-max : (o : Option ℕ) (xs : List ℕ) → reduce max (cons_option o xs) ≡ larger o (reduce max xs)
+unfolding larger
+reduce-max None xs = refl
+reduce-max (Some a) [] = refl
+reduce-max (Some a) (b ∷ xs) = ap Some (fold-max a b xs)
 
-  pub largest_left : (bound : ℕ) (left heads : List ℕ) (r : Option ℕ) → DescendsAt m list bound left heads → LargestHead left heads (length list) r → Largest (FollowsBelow m list bound) r
-  largest_left bound left heads None at none = λ c f.
-      let t = to_come bound left heads at c f in
-      omega (arith, none t.0 t.1, t.2.1)
-  largest_left bound left heads (Some c) at largest =
-      let j = largest.0.0 in
-      let h = largest.0.1 in
-      let cut = at j h in
-      let some = largest.0.2 in
-      let is : get_or (m.consequences (get_or list j 0)) (get_or left j 0 - 1) 0 ≡ c = sym (cut.head_is some) ∙ largest.0.3 in (
-        subst (FollowsBelow m list bound) is (comes_below bound left heads at j (get_or left j 0 - 1) h (omega arith)),
-        λ d f.
-            let t = to_come bound left heads at d f in
-            let other = at t.0 t.1 in
-            let top = largest.1 t.0 t.1 (omega (arith, t.2.1)) in
-            omega (
-              arith,
-              top,
-              other.head_is (omega (arith, t.2.1)),
-              t.2.2,
-              ascending_up (m.consequences (get_or list t.0 0)) (law.consequences_ascend (get_or list t.0 0)) t.2.0 (get_or left t.0 0 - 1) (omega (arith, t.2.1)) (omega (arith, t.2.1, other.within)),
-            ),
-      )
+-- the largest of two lists
+largest-append : (xs ys : List ℕ) (o p : Option ℕ) → Largest xs o → Largest ys p → Largest (xs ++ ys) (larger o p)
+unfolding larger
+largest-append xs ys None p l k = rw l k
+largest-append xs ys (Some a) None l k = rw (k, append-nil) l
+largest-append xs ys (Some a) (Some b) l k = (
+  elim (cases_lt a b) [
+    | inl n ↦ let e : b ≡ max a b = omega arith in subst (Contains (xs ++ ys)) e (Contains-append_right xs ys b k.0)
+    | inr n ↦ let e : a ≡ max a b = omega arith in subst (Contains (xs ++ ys)) e (Contains-append_left xs ys a l.0)
+  ],
+  λ d h. elim (Contains-append_cases xs ys d h) [ inl n ↦ omega (arith, l.1 d n) | inr n ↦ omega (arith, k.1 d n) ],
+)
 
-  -- known codes have 64 bits, so all that follows is below 2 ^ 64
-  pub follows_in_64_bits : (c : ℕ) → FollowsFromOne m list c → c < 2 ^ 64
-  follows_in_64_bits c f = law.known_codes_fit c (law.only_known_follow f.0 c f.2)
+-- the last of a row is its largest
+last_largest : (xs : List ℕ) → Ascending xs → Largest xs (slice_get xs (length xs - 1))
+last_largest [] up = refl
+last_largest (x ∷ xs) up =
+    let k = length (x ∷ xs) - 1 in
+    let last = slice_get-get_or (x ∷ xs) k 0 (omega arith) in
+    rw last (Contains-get_or (x ∷ xs) k 0 (omega arith), λ d h. omega (arith, ascending_up (x ∷ xs) up h.0 k (omega (arith, h.1)) (omega arith), get_or_default (x ∷ xs) h.0 0 d h.1, h.2))
 
-  -- where c is the largest below the bound, the descent is at c
-  pub descends_to : (bound : ℕ) (left heads : List ℕ) (c : ℕ) → DescendsAt m list bound left heads → Largest (FollowsBelow m list bound) (Some c) → DescendsAt m list (c + 1) left heads
-  descends_to bound left heads c at largest j h =
-      let cut = at j h in
-      record {
-        within = cut.within;
-        below = λ k l. omega (arith, largest.1 (get_or (m.consequences (get_or list j 0)) k 0) (comes_below bound left heads at j k h l));
-        above = λ k l n. omega (arith, cut.above k l n, largest.0.1);
-        head_is = cut.head_is;
-      }
+module _ {m : Meaning} {most : ℕ} (law : Lawful m most) where
+  module _ (q : Cursor) (at : IsInPlace m q) where
+    long : length (row_left m q) ≡ q.left
+    long = length-take-le q.left (m.consequences q.fact) at.within
 
--- two arrays, each with one place written
-module _ (P : ℕ → ℕ → ℕ → Type 0) (xs ys : List ℕ) (j v w : ℕ) where
-  pub written_here : j < length xs → j < length ys → P j v w → P j (get_or (set xs j v) j 0) (get_or (set ys j w) j 0)
-  written_here hx hy p = rw (get_or-set_same xs j v 0 hx, get_or-set_same ys j w 0 hy) p
+    row_ascends : Ascending (row_left m q)
+    row_ascends = ascending_front (row_left m q) (drop q.left (m.consequences q.fact)) (rw take-append-drop (law.consequences_ascend q.fact))
 
-  pub written_elsewhere : (i : ℕ) → (i ≡ j → ⊥) → P i (get_or xs i 0) (get_or ys i 0) → P i (get_or (set xs j v) i 0) (get_or (set ys j w) i 0)
-  written_elsewhere i ne p = rw (get_or-set_other xs j i v 0 ne, get_or-set_other ys j i w 0 ne) p
+    -- the head is the largest that is left
+    head_largest : Largest (row_left m q) q.head
+    head_largest = let e = at.head_is ∙ ap (λ n. slice_get (row_left m q) (n - 1)) (sym long) in rw e (last_largest (row_left m q) row_ascends)
 
-  pub written_more : j < length xs → j < length ys → ((i : ℕ) → i < j → P i (get_or xs i 0) (get_or ys i 0)) → P j v w → (i : ℕ) → i < j + 1 → P i (get_or (set xs j v) i 0) (get_or (set ys j w) i 0)
-  written_more hx hy each here = below_more (λ i. P i (get_or (set xs j v) i 0) (get_or (set ys j w) i 0)) j
-      (λ i h. written_elsewhere i (λ e. omega arith) (each i h)) (written_here hx hy here)
+    -- the head is the code: one fewer is left
+    pub passed : (code : ℕ) → q.head ≡ Some code → take (q.left - 1) (m.consequences q.fact) ≡ lows code (row_left m q)
+    passed code e =
+        let l : Largest (row_left m q) (Some code) = rw e at head_largest in
+        let parts = largest_last code (row_left m q) row_ascends l.0 l.1 in
+        sym (take-take (q.left - 1) q.left (m.consequences q.fact) (omega arith)) ∙ ap (take (q.left - 1)) parts
+        ∙ take_at (lows code (row_left m q)) (code ∷ []) (q.left - 1) (omega (arith, long, ap length parts, length_push (lows code (row_left m q)) code))
+
+    -- it is not
+    pub stays : (code : ℕ) → ((d : ℕ) → Contains (row_left m q) d → d ≤ code) → (q.head ≡ Some code → ⊥) → row_left m q ≡ lows code (row_left m q)
+    stays code top other = all_low code (row_left m q) row_ascends (λ d h.
+        elim q.head as (λ o. q.head ≡ o → Largest (row_left m q) o → d < code) [
+          | None ↦ λ e l. absurd (has_none (rw l at h))
+          | Some b ↦ λ e l. elim (cases_lt b code) [
+            | inl n ↦ omega (arith, l.1 d h)
+            | inr n ↦ let i : b ≡ code = omega (arith, top b l.0) in absurd (other (e ∙ ap Some i))
+          ]
+        ] refl head_largest)
+
+  -- the largest head is the largest code that is left
+  pub largest_left : (qs : List Cursor) → All (IsInPlace m) qs → Largest (to_come m qs) (reduce max (filter_map (λ q. q.head) qs))
+  largest_left [] at = refl
+  largest_left (q ∷ qs) at =
+      rw reduce-max (largest-append (row_left m q) (to_come m qs) q.head _ (head_largest q (All-head (IsInPlace m) q qs at)) (largest_left qs (All-tail (IsInPlace m) q qs at)))
+
+module _ (m : Meaning) where
+  -- each cursor has passed the code
+  pub all_passed : (code : ℕ) (qs ts : List Cursor) → length ts ≡ length qs → ((k : ℕ) (d : Cursor) → k < length qs → row_left m (get_or ts k d) ≡ lows code (row_left m (get_or qs k d)))
+      → to_come m ts ≡ lows code (to_come m qs)
+  all_passed code [] [] e each = refl
+  all_passed code [] (t ∷ ts) e each = absurd (omega arith)
+  all_passed code (q ∷ qs) [] e each = absurd (omega arith)
+  all_passed code (q ∷ qs) (t ∷ ts) e each =
+      ap (λ r. r ++ to_come m ts) (each 0 q (omega arith)) ∙ ap (λ r. lows code (row_left m q) ++ r) (all_passed code qs ts (omega arith) (λ k d h. each (suc k) d (omega arith)))
+      ∙ sym (filter-append (λ x. ltb x code) (row_left m q) (to_come m qs))
+
+  -- of all that follows from a list, nothing has been taken yet
+  pub all_to_come : (list : List ℕ) (qs : List Cursor) → to_come m qs ≡ flat_map m.consequences list → RowOf (FollowsFromOne m list) (reverse (codes_left m qs))
+  all_to_come list qs all =
+      let row = row_of_is (to_come m qs) in
+      rw reverse-reverse (record {
+        ascends = row.ascends;
+        members = λ c. (
+          λ h. flat_map_has m.consequences list c (rw all at ((row.members c).0 h)),
+          λ f. (row.members c).1 (rw all (has_flat_map m.consequences list f.0 c f.1 f.2)),
+        );
+      })

@@ -1,101 +1,53 @@
 -- What calls answer and which facts they leave is determined by the book, the number of cells and the calls.
-use Rattle.std.proofs.Common.{◌≡◌, ℕ, zero, suc, ◌+◌, ◌<◌, ◌≤◌, true, false, cond, eqb, List, [], ◌∷◌, length, get_or, Some, Ok, Err, Result, sym, refl, ap, ◌∙◌, subst, inl, inr, add-one, arith}
+use Rattle.std.proofs.lemmas.Grind.{common_steps}
+use Rattle.std.proofs.Common.{rules, ◌≡◌, ℕ, zero, suc, ◌+◌, ◌<◌, ◌≤◌, List, [], ◌∷◌, length, Some, Ok, Err, Result, sym, ap, ◌∙◌, subst, inl, inr, add-one, arith}
 use Rattle.std.specs.List.{slice_get}
-use Rattle.std.proofs.ByRecursion.{has_get_or}
+use Rattle.std.proofs.lemmas.List.Elements.{Contains-get_or}
 use Rattle.std.proofs.lemmas.List.{same_lists}
 use Rattle.std.proofs.lemmas.Option.{slice_get-get_or}
-use Rattle.std.proofs.lemmas.Bool.{both_ways, cases_order}
-use Rattle.std.proofs.lemmas.Bool.Decides.{same_from_decides}
+use Rattle.std.proofs.lemmas.Bool.{both_ways}
 use Rattle.rows.proofs.Properties.{one_row, one_count}
 use Rattle.book.specs.Meaning.{Meaning, NothingClashes}
-use Rattle.book.specs.Lists.{FirstUnknown, FirstClash}
-use Rattle.table.specs.Refusals.{number_of, returned_by, Says, ListRefused, DeliveryRefused}
+use Rattle.book.specs.Lists.{FirstClash}
+use Rattle.table.specs.Refusals.{Says, ListRefused, DeliveryRefused}
 use Rattle.table.specs.Calls.{DeliveryAccepted, Delivers, Withdraws}
 use Rattle.table.specs.Runs.{CarriedOut, Run}
 use Rattle.table.specs.declared.refusals.Refusal.{Refusal}
-use Rattle.table.specs.declared.refusals.Refusal.TheVariants.{TooLong, Unknown, Clash, Full}
 use Rattle.table.specs.declared.journal.Call.{Call}
 use Rattle.table.specs.declared.journal.Call.TheVariants.{Deliver, Withdraw, CountHeld, IsHeld, NthHeld}
 use Rattle.table.specs.declared.journal.Answer.{Answer}
 use Rattle.table.proofs.Worlds.{refused_is_not_short_and_known}
 use Rattle.table.proofs.Runs.{nth_within}
 
--- the refusal with this number that returns this
-abbrev spoken : ℕ → List ℕ → Refusal
-spoken n xs = cond (eqb n 6) (TooLong (get_or xs 0 0)) (cond (eqb n 7) (Unknown (get_or xs 0 0)) (cond (eqb n 8) (Clash (get_or xs 0 0, get_or xs 1 0)) (Full (get_or xs 0 0))))
-
-spoken_itself : (e : Refusal) → e ≡ spoken (number_of e) (returned_by e)
-spoken_itself (TooLong n) = refl
-spoken_itself (Unknown i) = refl
-spoken_itself (Clash p) = refl
-spoken_itself (Full n) = refl
-
 -- refusals that say the same are the same
 says_the_same : (e f : Refusal) (n : ℕ) (xs ys : List ℕ) → Says e n xs → Says f n ys → xs ≡ ys → f ≡ e
-says_the_same e f n xs ys s t q =
-    let p = spoken_itself e in
-    let r = spoken_itself f in
-    cc
-
--- the least number with the property P; there is one at most
-abbrev Least : (ℕ → Type 0) → ℕ → Type 0
-Least P i = P i × ((k : ℕ) → k < i → P k → ⊥)
-
-one_least : (P : ℕ → Type 0) (i j : ℕ) → Least P i → Least P j → i ≡ j
-one_least P i j a b = elim (cases_order i j) [
-  | inl e ↦ e
-  | inr o ↦ elim o [ inl h ↦ absurd (b.1 i h a.0) | inr h ↦ absurd (a.1 j h b.0) ]
-]
-
-same_pair : (p q : ℕ × ℕ) → p.0 ≡ q.0 → p.1 ≡ q.1 → p ≡ q
-same_pair p q d e = let same : ◌≡◌ {A = ℕ × ℕ} (p.0, p.1) (q.0, q.1) = cc in same
+says_the_same e f n xs ys s t q = search rules
 
 module _ (m : Meaning) (list : List ℕ) where
-  first_unknown_is_least : (i : ℕ) → FirstUnknown m list (Some i) → Least (λ k. m.known (get_or list k 0) ≡ false) i
-  first_unknown_is_least i f = (f.1, λ k h e. both_ways _ e (f.2 k h))
-
-  -- the second place of the first clash is least, and then the first
-  second_place_is_least : (p : ℕ × ℕ) → FirstClash m list (Some p) → Least (λ j. (i : ℕ) × (i ≤ j) × (m.clash (get_or list i 0) (get_or list j 0) ≡ true)) p.1
-  second_place_is_least p f = ((p.0, f.0, f.2), λ j h c. both_ways _ (f.3 c.0 j c.1 h) c.2)
-
-  first_place_is_least : (p : ℕ × ℕ) → FirstClash m list (Some p) → Least (λ i. m.clash (get_or list i 0) (get_or list p.1 0) ≡ true) p.0
-  first_place_is_least p f = (f.2, λ i h c. both_ways _ (f.4 i h) c)
-
   one_first_clash : (p q : ℕ × ℕ) → FirstClash m list (Some p) → FirstClash m list (Some q) → p ≡ q
-  one_first_clash p q f g =
-      let e = one_least _ _ _ (second_place_is_least p f) (second_place_is_least q g) in
-      same_pair p q (one_least _ _ _ (first_place_is_least p f) (rw e (first_place_is_least q g))) e
+  one_first_clash p q f g = search rules
 
   first_clash_is_a_clash : (p : ℕ × ℕ) → FirstClash m list (Some p) → NothingClashes m list → ⊥
-  first_clash_is_a_clash p f none = both_ways _ (none _ _ (has_get_or list p.0 0 (omega (arith, f.0, f.1))) (has_get_or list p.1 0 f.1)) f.2
+  first_clash_is_a_clash p f none = both_ways _ (none _ _ (Contains-get_or list p.0 0 (omega (arith, f.0, f.1))) (Contains-get_or list p.1 0 f.1)) f.2
 
   one_list_refusal : (e f : Refusal) → ListRefused m list e → ListRefused m list f → f ≡ e
-  one_list_refusal e f r s = elim r [
-    | inl a ↦ elim s [
-      | inl b ↦ says_the_same e f _ _ _ a.1 b.1 refl
-      | inr b ↦ absurd (omega (arith, a.0, b.0))
-    ]
-    | inr a ↦ elim s [
-      | inl b ↦ absurd (omega (arith, a.0, b.0))
-      | inr b ↦ says_the_same e f _ _ _ a.1.2 b.1.2 (ap (λ i. i ∷ []) (one_least _ _ _ (first_unknown_is_least _ a.1.1) (first_unknown_is_least _ b.1.1)))
-    ]
-  ]
+  one_list_refusal e f r s = search rules
 
   one_withdrawal : (old new new' : List ℕ) (r s : Result (ℕ × ℕ) Refusal) → Withdraws m list old new r → Withdraws m list old new' s → (s ≡ r) × (new' ≡ new)
   one_withdrawal old new new' (Ok a) (Ok b) d d' =
       let same = one_row d'.0.leaves d.0.leaves in
       let gone = one_count _ _ _ (rw same at d'.0.number_gone) d.0.number_gone in
-      (ap Ok (same_pair b a gone (d'.1 ∙ sym d.1)), same)
-  one_withdrawal old new new' (Ok a) (Err f) d d' = absurd (refused_is_not_short_and_known m list f d'.0 d.0.short_and_known)
-  one_withdrawal old new new' (Err e) (Ok b) d d' = absurd (refused_is_not_short_and_known m list e d.0 d'.0.short_and_known)
-  one_withdrawal old new new' (Err e) (Err f) d d' = (ap Err (one_list_refusal e f d.0 d'.0), d'.1 ∙ sym d.1)
+      search rules
+  one_withdrawal old new new' (Ok a) (Err f) d d' = grind (arith, common_steps)
+  one_withdrawal old new new' (Err e) (Ok b) d d' = grind (arith, common_steps)
+  one_withdrawal old new new' (Err e) (Err f) d d' = search rules
 
   module _ (size : ℕ) (old : List ℕ) where
     one_delivery_refusal : (e f : Refusal) → DeliveryRefused m size list old e → DeliveryRefused m size list old f → f ≡ e
     one_delivery_refusal e f r s = elim r [
       | inl a ↦ elim s [
         | inl b ↦ one_list_refusal e f a b
-        | inr t ↦ elim t [ inl b ↦ absurd (refused_is_not_short_and_known m list e a b.0) | inr b ↦ absurd (refused_is_not_short_and_known m list e a b.0) ]
+        | inr t ↦ absurd (refused_is_not_short_and_known m list e a (elim t [ inl b ↦ b.0 | inr b ↦ b.0 ]))
       ]
       | inr v ↦ elim v [
         | inl a ↦ elim s [
@@ -130,7 +82,7 @@ module _ (m : Meaning) (list : List ℕ) where
         let same = one_row d'.leaves d.leaves in
         let gone = one_count _ _ _ (rw same at d'.number_gone) d.number_gone in
         let come = one_count _ _ _ (rw same at d'.number_come) d.number_come in
-        (ap Ok (same_pair b a gone come), same)
+        search rules
     one_delivery new new' (Ok a) (Err f) d d' = absurd (accepted_or_refused new _ _ f d d'.0)
     one_delivery new new' (Err e) (Ok b) d d' = absurd (accepted_or_refused new' _ _ e d' d.0)
     one_delivery new new' (Err e) (Err f) d d' = (ap Err (one_delivery_refusal e f d.0 d'.0), d'.1 ∙ sym d.1)
@@ -144,9 +96,7 @@ one_answer m size old (Withdraw list) new new' answer answer' l k =
     let one = one_withdrawal m list.now old new new' l.0 k.0 l.2 k.2 in
     (cc, one.1)
 one_answer m size old CountHeld new new' answer answer' l k = (cc, cc)
-one_answer m size old (IsHeld c) new new' answer answer' l k =
-    let same = same_from_decides l.0.0 k.0.0 l.0.2 k.0.2 in
-    (cc, cc)
+one_answer m size old (IsHeld c) new new' answer answer' l k = search rules
 one_answer m size old (NthHeld k) new new' answer answer' l l' = (cc, cc)
 
 module _ (m : Meaning) (size : ℕ) (calls : List Call) (answers answers' : List Answer) (facts facts' : ℕ → List ℕ) (run : Run m size calls answers facts) (run' : Run m size calls answers' facts') where
@@ -155,7 +105,7 @@ module _ (m : Meaning) (size : ℕ) (calls : List Call) (answers answers' : List
       let call = nth_within calls i h in
       let a = nth_within answers i (omega (arith, run.all_answered)) in
       let b = nth_within answers' i (omega (arith, run'.all_answered)) in
-      let left' : CarriedOut m size (facts i) call.0 (facts' (i + 1)) b.0 = subst (λ (old : List ℕ). CarriedOut m size old call.0 (facts' (i + 1)) b.0) same (run'.each_carried_out i call.0 b.0 call.1 b.1) in
+      let left' : CarriedOut m size (facts i) call.0 (facts' (i + 1)) b.0 = rw same at (run'.each_carried_out i call.0 b.0 call.1 b.1) in
       let one = one_answer m size (facts i) call.0 (facts (i + 1)) (facts' (i + 1)) a.0 b.0 (run.each_carried_out i call.0 a.0 call.1 a.1) left' in
       (cc, one.1)
 

@@ -1,10 +1,11 @@
 -- A journal that is replayed: the calls carried out so far are a run.
-use Rattle.std.proofs.Common.{◌≡◌, ℕ, zero, suc, ◌+◌, ◌<◌, ◌≤◌, cond, leb, ◌⊎◌, List, [], ◌∷◌, ◌++◌, map, length, get_or, take, drop, set, Some, None, Ok, Err, Option, Result, sym, refl, ap, ◌∙◌, subst, inl, inr, arith}
+use Rattle.std.proofs.lemmas.Grind.{common_steps}
+use Rattle.std.proofs.Common.{rules, ◌≡◌, ℕ, ◌+◌, ◌<◌, ◌≤◌, cond, leb, ◌⊎◌, List, [], ◌∷◌, ◌++◌, map, length, get_or, take, drop, set, Some, None, Ok, Err, Option, Result, sym, refl, ap, ◌∙◌, inl, inr, arith}
 use Rattle.std.specs.List.{slice_get}
-use Rattle.std.proofs.lemmas.List.{append_assoc, length-map, length_push, length-take-le, map_push, take_more, take_all, take-append-le, drop_more, drop_all, set_at}
-use Rattle.std.proofs.lemmas.Bool.{le-leb, lt-leb, cond-true, cond-false}
+use Rattle.std.proofs.Math.Seq.{take-nil}
+use Rattle.std.proofs.lemmas.List.{append_assoc, length-map, length_push, length-take-le, map_push, take_more, take_all, drop_more, set_at}
 use Rattle.rows.proofs.Properties.{row_within}
-use Rattle.rows.proofs.Tests.{some_not_none}
+use Rattle.std.proofs.lemmas.Option.{none-some, gets}
 use Rattle.book.specs.Meaning.{Meaning, Lawful}
 use Rattle.table.specs.Cells.{used, laid}
 use Rattle.table.specs.Calls.{Delivers, Withdraws}
@@ -17,27 +18,13 @@ use Rattle.table.proofs.Cells.{used-laid, laid-laid}
 use Rattle.table.proofs.Runs.{law_of_runs, after_each}
 use Rattle.table.proofs.Determined.{only_one_run}
 
--- the first n of no answers are none
-none_of : (n : ℕ) → ◌≡◌ {A = List Answer} (take n []) []
-none_of zero = refl
-none_of (suc n) = refl
-
 -- number j of the first i
 nth_take : {X : Type 0} {x : X} (xs : List X) (i j : ℕ) → slice_get (take i xs) j ≡ Some x → slice_get xs j ≡ Some x
-nth_take xs zero j e = absurd (some_not_none (sym e))
-nth_take [] (suc i) j e = e
-nth_take (x ∷ xs) (suc i) zero e = e
-nth_take (x ∷ xs) (suc i) (suc j) e = nth_take xs i j e
+nth_take xs i j e = grind (arith, common_steps, gets)
 
 -- number j of a list with one more at its end
 nth_push : {X : Type 0} (xs : List X) (x y : X) (j : ℕ) → slice_get (xs ++ (x ∷ [])) j ≡ Some y → ((j < length xs) × (slice_get xs j ≡ Some y)) ⊎ ((j ≡ length xs) × (x ≡ y))
-nth_push [] x y zero e = inr (refl, cc)
-nth_push [] x y (suc j) e = absurd (some_not_none (sym e))
-nth_push (z ∷ xs) x y zero e = inl (omega arith, e)
-nth_push (z ∷ xs) x y (suc j) e = elim (nth_push xs x y j e) [
-  | inl p ↦ inl (omega (arith, p.0), p.1)
-  | inr p ↦ inr (omega (arith, p.0), p.1)
-]
+nth_push xs x y j e = grind (arith, common_steps, gets)
 
 -- the facts after one call more
 abbrev then_holds : (ℕ → List ℕ) → ℕ → List ℕ → ℕ → List ℕ
@@ -45,10 +32,10 @@ then_holds facts i new j = cond (leb j i) (facts j) new
 
 module _ (facts : ℕ → List ℕ) (i : ℕ) (new : List ℕ) where
   holds_before : (j : ℕ) → j ≤ i → then_holds facts i new j ≡ facts j
-  holds_before j h = cond-true (leb j i) (facts j) new (le-leb j i h)
+  holds_before j h = search rules
 
   holds_after : then_holds facts i new (i + 1) ≡ new
-  holds_after = cond-false (leb (i + 1) i) (facts (i + 1)) new (lt-leb (i + 1) i (omega arith))
+  holds_after = search rules
 
 -- what a call leaves fits if what was held did
 fits_on : (m : Meaning) (size : ℕ) (old new : List ℕ) (call : Call) (answer : Answer) → CarriedOut m size old call new answer → length old ≤ size → length new ≤ size
@@ -73,18 +60,14 @@ run_more m size i calls answers facts call answer new long run carried = record 
     | inl p ↦ elim (nth_push answers answer a j is_answer) [
       | inl q ↦
           let low : j < i = omega (arith, p.0) in
-          subst (λ l. CarriedOut m size l c (then_holds facts i new (j + 1)) a) (sym (holds_before facts i new j (omega arith)))
-          (subst (λ l. CarriedOut m size (facts j) c l a) (sym (holds_before facts i new (j + 1) (omega arith))) (run.each_carried_out j c a p.1 q.1))
+          rw (holds_before facts i new j (omega arith), holds_before facts i new (j + 1) (omega arith)) (run.each_carried_out j c a p.1 q.1)
       | inr q ↦ absurd (omega (arith, p.0, q.0, run.all_answered))
     ]
     | inr p ↦ elim (nth_push answers answer a j is_answer) [
       | inl q ↦ absurd (omega (arith, p.0, q.0, run.all_answered))
       | inr q ↦
-          let e : i ≡ j = omega (arith, p.0) in
-          let here : CarriedOut m size (then_holds facts i new i) call (then_holds facts i new (i + 1)) answer
-          = subst (λ l. CarriedOut m size l call (then_holds facts i new (i + 1)) answer) (sym (holds_before facts i new i (omega arith))) (subst (λ l. CarriedOut m size (facts i) call l answer) (sym (holds_after facts i new)) carried) in
-          subst (λ k. CarriedOut m size (then_holds facts i new k) c (then_holds facts i new (k + 1)) a) e
-          (subst (λ b. CarriedOut m size (then_holds facts i new i) c (then_holds facts i new (i + 1)) b) q.1 (subst (λ d. CarriedOut m size (then_holds facts i new i) d (then_holds facts i new (i + 1)) answer) p.1 here))
+          let e : j ≡ i = omega (arith, p.0) in
+          rw (e, ← p.1, ← q.1, holds_before facts i new i (omega arith), holds_after facts i new) carried
     ]
   ];
 }
@@ -103,11 +86,11 @@ pub replaying_start : (m : Meaning) (before : List ℕ) (calls : List Call) (giv
 replaying_start m before calls given cells held none is = record {
   answers = [];
   facts = λ _. [];
-  run = record { all_answered = refl; none_at_first = refl; each_carried_out = λ i c a h k. absurd (some_not_none (sym h)) };
+  run = record { all_answered = refl; none_at_first = refl; each_carried_out = λ i c a h k. absurd (none-some _ h) };
   holds = sym none;
   fits = omega (arith, ap length none);
-  laid_out = is ∙ sym (laid-laid [] before (omega arith) []) ∙ ap (laid []) (sym is) ∙ ap (λ l. laid l cells) (sym none);
-  answered = ap (λ l. map Some l ++ given) (sym (none_of (length given)));
+  laid_out = rw none (rw (← is) at (sym (laid-laid [] before (omega arith) [])));
+  answered = ap (λ l. map Some l ++ given) (sym (take-nil (length given)));
 }
 
 -- one answer more, written if there is a place for it
@@ -119,14 +102,8 @@ written_more given answers written written' i answer long was (inl p) =
     let here : take (length given) answers ≡ answers = take_all (length given) answers (omega (arith, p.0)) in
     let now : take (length given) (answers ++ (answer ∷ [])) ≡ answers ++ (answer ∷ []) = take_all (length given) (answers ++ (answer ∷ [])) (omega (arith, p.0, length_push answers answer)) in
     let n : length (map Some answers) ≡ i = length-map answers Some ∙ long in
-    p.1 ∙ ap (λ l. set l i (Some answer)) (was ∙ ap (λ l. map Some l ++ drop i given) here ∙ ap (λ l. map Some answers ++ l) (drop_more given i None p.0))
-    ∙ set_at (map Some answers) (get_or given i None) (drop (i + 1) given) (Some answer) i n
-    ∙ sym (append_assoc (map Some answers) (Some answer ∷ []) (drop (i + 1) given)) ∙ ap (λ l. l ++ drop (i + 1) given) (sym (map_push Some answers answer) ∙ ap (map Some) (sym now))
-written_more given answers written written' i answer long was (inr p) =
-    let none : drop i given ≡ [] = drop_all i given p.0 in
-    let still : drop (i + 1) given ≡ [] = drop_all (i + 1) given (omega (arith, p.0)) in
-    let same : take (length given) (answers ++ (answer ∷ [])) ≡ take (length given) answers = take-append-le (length given) answers (answer ∷ []) (omega (arith, p.0)) in
-    p.1 ∙ was ∙ ap (λ l. map Some (take (length given) answers) ++ l) (none ∙ sym still) ∙ ap (λ l. map Some l ++ drop (i + 1) given) (sym same)
+    rw (p.1, was, here, now, drop_more given i None p.0, map_push Some answers answer, append_assoc (map Some answers) (Some answer ∷ []) (drop (i + 1) given)) (set_at (map Some answers) (get_or given i None) (drop (i + 1) given) (Some answer) i n)
+written_more given answers written written' i answer long was (inr p) = grind (arith, common_steps)
 
 pub replaying_more : (m : Meaning) (before : List ℕ) (calls : List Call) (given : List (Option Answer)) (cells held : List ℕ) (written written' : List (Option Answer)) (i : ℕ) (call : Call) (answer : Answer) (cells' held' : List ℕ)
     → i < length calls → ((d : Call) → get_or calls i d ≡ call)
@@ -135,13 +112,12 @@ pub replaying_more : (m : Meaning) (before : List ℕ) (calls : List Call) (give
     → Replaying m before calls given cells' held' written' (i + 1)
 replaying_more m before calls given cells held written written' i call answer cells' held' h is places was carried laid' =
     let size : used cells ≡ used before = ap used was.laid_out ∙ used-laid held before was.fits in
-    let carried' : CarriedOut m (used before) held call held' answer = subst (λ n. CarriedOut m n held call held' answer) size carried in
+    let carried' : CarriedOut m (used before) held call held' answer = rw size at carried in
     let n : length (take i calls) ≡ i = length-take-le i calls (omega arith) in
     record {
       answers = was.answers ++ (answer ∷ []);
       facts = then_holds was.facts i held';
-      run = subst (λ l. Run m (used before) l (was.answers ++ (answer ∷ [])) (then_holds was.facts i held')) (sym (take_more calls i call h ∙ ap (λ c. take i calls ++ (c ∷ [])) (is call)))
-          (run_more m (used before) i (take i calls) was.answers was.facts call answer held' n was.run (subst (λ l. CarriedOut m (used before) l call held' answer) (sym was.holds) carried'));
+      run = rw (take_more calls i call h, is call) (run_more m (used before) i (take i calls) was.answers was.facts call answer held' n was.run (rw was.holds carried'));
       holds = holds_after was.facts i held';
       fits = fits_on m (used before) held held' call answer carried' was.fits;
       laid_out = laid' ∙ ap (laid held') was.laid_out ∙ laid-laid held before was.fits held';
@@ -167,7 +143,7 @@ pub replayed : (m : Meaning) (most : ℕ) (law : Lawful m most) (before made : L
 replayed m most law before made calls given cells held written i e new was =
     let size : used made ≡ used before = ap used new ∙ used-laid [] before (omega arith) in
     let all : take i calls ≡ calls = take_all i calls (omega arith) in
-    let run : Run m (used before) calls was.answers was.facts = subst (λ l. Run m (used before) l was.answers was.facts) all (subst (λ k. Run m k (take i calls) was.answers was.facts) size was.run) in
+    let run : Run m (used before) calls was.answers was.facts = rw (size, all) at was.run in
     record {
       answers = was.answers;
       facts = was.facts;
@@ -179,7 +155,7 @@ replayed m most law before made calls given cells held written i e new was =
       made = ap (λ l. laid l before) run.none_at_first;
       each_writes = λ j h. sym (laid-laid (was.facts j) before (run_fits m (used before) calls was.answers was.facts run j (omega arith)) (was.facts (j + 1)));
       in_first_cells = λ j h. refl;
-      ends = was.laid_out ∙ ap (laid held) new ∙ laid-laid [] before (omega arith) held ∙ ap (λ l. laid l before) (sym was.holds) ∙ ap (λ k. laid (was.facts k) before) e;
-      holds = sym was.holds ∙ ap was.facts e;
-      answered = was.answered ∙ ap (λ k. map Some (take (length given) was.answers) ++ drop k given) e;
+      ends = rw (← e, was.holds) (was.laid_out ∙ ap (laid held) new ∙ laid-laid [] before (omega arith) held);
+      holds = rw (← e) (sym was.holds);
+      answered = rw (← e) was.answered;
     }

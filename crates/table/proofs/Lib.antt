@@ -1,12 +1,14 @@
 pub mod Cells
 pub mod Tests
 pub mod Few
+pub mod Cuts
 pub mod Descents
 pub mod Placings
 pub mod Entries
 pub mod Merging
+pub mod Staying
 pub mod Deliveries
-pub mod Changes
+pub mod Withdrawals
 pub mod Worlds
 pub mod Runs
 pub mod Determined

@@ -1,11 +1,9 @@
 -- The law that runs of calls keep.
-use Rattle.std.proofs.Common.{◌≡◌, ℕ, zero, suc, ◌+◌, ◌<◌, ◌≤◌, List, [], ◌∷◌, length, Some, Ok, Err, Result, sym, refl, ap, ◌∙◌, subst, inl, inr, add-one, arith}
+use Rattle.std.proofs.Common.{◌≡◌, ℕ, zero, suc, ◌+◌, ◌<◌, ◌≤◌, List, [], length, Some, Ok, Err, Result, ap, ◌∙◌, subst, add-one, inl, inr, arith}
 use Rattle.std.specs.List.{slice_get}
-use Rattle.std.proofs.lemmas.Option.{slice_get_past}
-use Rattle.std.proofs.lemmas.Bool.{cases_lt}
+use Rattle.std.proofs.lemmas.Option.{slice_get_cases, slice_get_within}
 use Rattle.rows.specs.Rows.{Ascending}
 use Rattle.rows.proofs.Ascents.{ascending_none}
-use Rattle.rows.proofs.Tests.{some_not_none}
 use Rattle.book.specs.Meaning.{Meaning, Lawful}
 use Rattle.table.specs.Calls.{Delivers, Withdraws}
 use Rattle.table.specs.Worlds.{SomeWorldHoldsExactly}
@@ -18,15 +16,7 @@ use Rattle.table.proofs.Worlds.{delivery_by_worlds, withdrawal_by_worlds, delive
 
 -- each place of a list has an item
 pub nth_within : {X : Type 0} (xs : List X) (i : ℕ) → i < length xs → (x : X) × (slice_get xs i ≡ Some x)
-nth_within [] i h = absurd (omega arith)
-nth_within (x ∷ xs) zero h = (x, refl)
-nth_within (x ∷ xs) (suc i) h = nth_within xs i (omega arith)
-
-nth_some : {X : Type 0} {x : X} (xs : List X) (i : ℕ) → slice_get xs i ≡ Some x → i < length xs
-nth_some xs i e = elim (cases_lt i (length xs)) [
-  | inl l ↦ l
-  | inr l ↦ absurd (some_not_none (sym e ∙ slice_get_past xs i l))
-]
+nth_within xs i h = elim (slice_get_cases xs i).1 [ inl s ↦ (s.0, s.2) | inr p ↦ absurd (omega (arith, p.0)) ]
 
 -- what holds of no facts and is kept by each call holds after each call
 pub after_each : (m : Meaning) (size : ℕ) (calls : List Call) (answers : List Answer) (facts : ℕ → List ℕ) → Run m size calls answers facts → (P : List ℕ → Type 0) → P [] → ((old : List ℕ) (call : Call) (new : List ℕ) (answer : Answer) → CarriedOut m size old call new answer → P old → P new) → (i : ℕ) → i ≤ length calls → P (facts i)
@@ -68,7 +58,7 @@ module _ (m : Meaning) (most : ℕ) (law : Lawful m most) where
     -- the answer to a call, and what it says
     answered_there : (i : ℕ) (call : Call) → slice_get calls i ≡ Some call → (answer : Answer) × (slice_get answers i ≡ Some answer) × CarriedOut m size (facts i) call (facts (i + 1)) answer
     answered_there i call e =
-        let answer = nth_within answers i (omega (arith, nth_some calls i e, run.all_answered)) in
+        let answer = nth_within answers i (omega (arith, slice_get_within calls i call e, run.all_answered)) in
         (answer.0, answer.1, run.each_carried_out i call answer.0 e answer.1)
 
     pub law_of_runs : LawOfRuns m calls answers facts

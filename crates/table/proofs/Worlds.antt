@@ -1,10 +1,10 @@
 -- What deliveries and withdrawals mean by the book's worlds, and the world that they keep.
-use Rattle.std.proofs.Common.{◌≡◌, ℕ, false, ◌↔◌, List, [], Some, None, Ok, Err, Result, refl, ◌∙◌, inl, inr, arith}
-use Rattle.std.specs.List.{ContainsAt as Has}
-use Rattle.std.proofs.ByRecursion.{has_get_or}
-use Rattle.std.proofs.lemmas.Bool.{both_ways}
+use Rattle.std.proofs.lemmas.Grind.{common_steps}
+use Rattle.std.proofs.Common.{rules, ◌≡◌, ℕ, false, ◌↔◌, List, [], Some, None, Ok, Err, Result, refl, ◌∙◌, inl, inr, arith}
+use Rattle.std.specs.List.{Contains}
+use Rattle.std.proofs.lemmas.List.Elements.{Contains-get_or}
+use Rattle.std.proofs.lemmas.Bool.{both_ways, false_from_ne_true}
 use Rattle.rows.proofs.Members.{has_none}
-use Rattle.rows.proofs.Tests.{false_from_not_true}
 use Rattle.book.specs.Meaning.{Meaning, Lawful, Follows, AllKnown, NothingClashes}
 use Rattle.book.specs.Lists.{NoWorldHoldsAll}
 use Rattle.book.proofs.Peace.{clash_is_symmetric, causes_clash, none_against, none_clash, first_clash_tells}
@@ -16,17 +16,12 @@ use Rattle.table.specs.declared.refusals.Refusal.{Refusal}
 
 -- a list that is refused for its length or for an unknown code is not short and known
 pub refused_is_not_short_and_known : (m : Meaning) (list : List ℕ) (e : Refusal) → ListRefused m list e → ShortAndKnown m list → ⊥
-refused_is_not_short_and_known m list e r fine = elim r [
-  | inl a ↦ omega (arith, a.0, fine.short)
-  | inr a ↦ let f = a.1.1 in both_ways _ f.1 (fine.known _ (has_get_or list a.1.0 0 f.0))
-]
+refused_is_not_short_and_known m list e r fine = grind (arith, common_steps)
 
 module _ (m : Meaning) (most : ℕ) (law : Lawful m most) where
   -- two facts that one world holds do not clash
   common_world : (w : m.World) (a b : ℕ) → m.Holds w a → m.Holds w b → m.clash a b ≡ false
-  common_world w a b ha hb = false_from_not_true (m.clash a b) (λ e.
-      let k = law.only_known_clash a b e in
-      (law.clash_is_no_common_world a b k.0 k.1).0 e w ha hb)
+  common_world w a b ha hb = search rules
 
   -- where nothing clashes, it is right not to refuse with 8
   rightly_not_contradictory : (list : List ℕ) (r : Result (ℕ × ℕ) Refusal) → NothingClashes m list → (TurnedAway 8 r → ⊥) → ShortAndKnown m list → TurnedAway 8 r ↔ NoWorldHoldsAll m list
@@ -52,12 +47,7 @@ module _ (m : Meaning) (most : ℕ) (law : Lawful m most) where
       | inr o ↦ absurd (only.1 o.0)
     ];
   }
-  delivery_by_worlds size list old new (Err e) d = record {
-    contradictory = refused_by_worlds size list old e d.0;
-    delivered_are_held = λ ok. absurd (both_ways false refl ok);
-    compatible_facts_stay = λ ok. absurd (both_ways false refl ok);
-    new_facts_hold = λ ok. absurd (both_ways false refl ok);
-  }
+  delivery_by_worlds size list old new (Err e) d = let told = refused_by_worlds size list old e d.0 in search rules
 
   pub withdrawal_by_worlds : (list old new : List ℕ) (r : Result (ℕ × ℕ) Refusal) → Withdraws m list old new r → WithdrawalByWorlds m list old new r
   withdrawal_by_worlds list old new (Ok counts) d = record {
@@ -65,25 +55,21 @@ module _ (m : Meaning) (most : ℕ) (law : Lawful m most) where
     none_is_new = λ _ c k. ((d.0.leaves.members c).0 k).0;
     other_facts_stay = λ _ set within w these none c h. (d.0.leaves.members c).1 (within c h, λ b k f. none b k (law.world_holds_what_follows c b f w (these c h)));
   }
-  withdrawal_by_worlds list old new (Err e) d = record {
-    named_are_gone = λ ok. absurd (both_ways false refl ok);
-    none_is_new = λ ok. absurd (both_ways false refl ok);
-    other_facts_stay = λ ok. absurd (both_ways false refl ok);
-  }
+  withdrawal_by_worlds list old new (Err e) d = search rules
 
   -- facts that some world holds exactly do not clash, and what follows from one of them is one of them
   module _ (facts : List ℕ) (s : SomeWorldHoldsExactly m facts) where
-    held_there : (c : ℕ) → Has facts c → m.Holds s.world c
+    held_there : (c : ℕ) → Contains facts c → m.Holds s.world c
     held_there c h = (s.exactly c (s.known c h)).1 h
 
     do_not_clash : NothingClashes m facts
-    do_not_clash a b ha hb = common_world s.world a b (held_there a ha) (held_there b hb)
+    do_not_clash a b ha hb = search rules
 
-    hold_what_follows : (a c : ℕ) → Has facts a → Follows m a c → Has facts c
+    hold_what_follows : (a c : ℕ) → Contains facts a → Follows m a c → Contains facts c
     hold_what_follows a c h f = (s.exactly c (law.only_known_follow a c f)).0 (law.world_holds_what_follows a c f s.world (held_there a h))
 
   -- and some world holds such facts exactly if they are known
-  world_of : (facts : List ℕ) → AllKnown m facts → NothingClashes m facts → ((a c : ℕ) → Has facts a → Follows m a c → Has facts c) → SomeWorldHoldsExactly m facts
+  world_of : (facts : List ℕ) → AllKnown m facts → NothingClashes m facts → ((a c : ℕ) → Contains facts a → Follows m a c → Contains facts c) → SomeWorldHoldsExactly m facts
   world_of facts known none closed =
       let w = law.some_world_holds_exactly facts known none in
       record {
@@ -98,7 +84,7 @@ module _ (m : Meaning) (most : ℕ) (law : Lawful m most) where
   -- what a delivery leaves does not clash
   left_in_peace : (list old : List ℕ) → NothingClashes m list → SomeWorldHoldsExactly m old → (a b : ℕ) → AfterDelivery m list old a → AfterDelivery m list old b → m.clash a b ≡ false
   left_in_peace list old none s a b la lb =
-      let against : (c : ℕ) → ClashesWithNone m list c → _ = λ c quiet. none_against m most law list c None (λ k h. quiet _ (has_get_or list k 0 h)) refl in
+      let against : (c : ℕ) → ClashesWithNone m list c → _ = λ c quiet. none_against m most law list c None (λ k h. quiet _ (Contains-get_or list k 0 h)) refl in
       elim la [
         | inl fa ↦ elim lb [
           | inl fb ↦ none_clash m most law list None none refl a b fa fb
@@ -112,13 +98,13 @@ module _ (m : Meaning) (most : ℕ) (law : Lawful m most) where
 
   accepted_keeps_a_world : (size : ℕ) (list old new : List ℕ) (gone come : ℕ) → DeliveryAccepted m size list old new gone come → SomeWorldHoldsExactly m old → SomeWorldHoldsExactly m new
   accepted_keeps_a_world size list old new gone come d s =
-      let was = λ (c : ℕ) (h : Has new c). (d.leaves.members c).0 h in
+      let was = λ (c : ℕ) (h : Contains new c). (d.leaves.members c).0 h in
       world_of new
       (λ c h. elim (was c h) [ inl f ↦ law.only_known_follow f.0 c f.2 | inr o ↦ s.known c o.0 ])
       (λ a b ha hb. left_in_peace list old d.nothing_clashes s a b (was a ha) (was b hb))
       (λ a c h f. (d.leaves.members c).1 (elim (was a h) [
         | inl g ↦ inl (g.0, g.1, law.follows_on g.0 a c g.2 f)
-        | inr o ↦ inr (hold_what_follows old s a c o.0 f, λ b k. false_from_not_true (m.clash b c) (λ e. both_ways _ (o.1 b k) (causes_clash m most law a b c f e)))
+        | inr o ↦ inr (hold_what_follows old s a c o.0 f, λ b k. false_from_ne_true (m.clash b c) (λ e. both_ways _ (o.1 b k) (causes_clash m most law a b c f e)))
       ]))
 
   pub delivery_keeps_a_world : (size : ℕ) (list old new : List ℕ) (r : Result (ℕ × ℕ) Refusal) → Delivers m size list old new r → SomeWorldHoldsExactly m old → SomeWorldHoldsExactly m new
@@ -127,7 +113,7 @@ module _ (m : Meaning) (most : ℕ) (law : Lawful m most) where
 
   pub withdrawal_keeps_a_world : (list old new : List ℕ) (r : Result (ℕ × ℕ) Refusal) → Withdraws m list old new r → SomeWorldHoldsExactly m old → SomeWorldHoldsExactly m new
   withdrawal_keeps_a_world list old new (Ok counts) d s =
-      let was = λ (c : ℕ) (h : Has new c). (d.0.leaves.members c).0 h in
+      let was = λ (c : ℕ) (h : Contains new c). (d.0.leaves.members c).0 h in
       world_of new
       (λ c h. s.known c (was c h).0)
       (λ a b ha hb. do_not_clash old s a b (was a ha).0 (was b hb).0)

@@ -1,36 +1,44 @@
 -- Which consequences of a list are still to come, where they are taken from the largest code down.
 -- Private functions alone cite this file; no contract of a public call rests on it.
-use Rattle.std.specs.Prelude.{◌≡◌, ℕ, ◌-◌, ◌<◌, ◌≤◌, List, length, Some, None, Option, slice_index}
-use Rattle.std.specs.List.{ContainsAt as Has}
+use Rattle.std.specs.Prelude.{◌≡◌, ℕ, ◌-◌, ◌≤◌, List, [], ◌∷◌, ◌++◌, length, take, reverse, Some, None, Option, filter, nat_lt, slice_get}
+use Rattle.std.specs.List.{Contains, flat_map}
 use Rattle.book.specs.Meaning.{Meaning, FollowsFromOne}
-
--- c follows from one of the list and is below the bound
-abbrev pub FollowsBelow : Meaning → List ℕ → ℕ → ℕ → Type 0
-FollowsBelow m list bound c = FollowsFromOne m list c × (c < bound)
+use Rattle.table.specs.declared.descent.Cursor.{Cursor}
 
 -- c follows from one of the list and does not stand in the row
 abbrev pub Comes : Meaning → List ℕ → List ℕ → ℕ → Type 0
-Comes m list row c = FollowsFromOne m list c × (Has row c → ⊥)
+Comes m list row c = FollowsFromOne m list c × (Contains row c → ⊥)
 
--- the largest number with the property P; none where no number has it
-abbrev pub Largest : (ℕ → Type 0) → Option ℕ → Type 0
-Largest P None = (c : ℕ) → P c → ⊥
-Largest P (Some c) = P c × ((d : ℕ) → P d → d ≤ c)
+-- the consequences of the cursor's fact that are still to come
+abbrev pub row_left : Meaning → Cursor → List ℕ
+row_left m q = take q.left (m.consequences q.fact)
 
--- of the row cs, exactly the first `left` are below the bound, and the largest of these is `head`
-pub record CutAt (cs : List ℕ) (bound left head : ℕ) : Type 0 where
-  pub within : left ≤ length cs
-  pub below : (k : ℕ) → k < left → slice_index cs k < bound
-  pub above : (k : ℕ) → left ≤ k → k < length cs → bound ≤ slice_index cs k
-  pub head_is : 0 < left → head ≡ slice_index cs (left - 1)
+-- as many are still to come as the cursor says, and its head is the largest of them
+pub record IsInPlace (m : Meaning) (q : Cursor) : Type 0 where
+  pub within : q.left ≤ length (m.consequences q.fact)
+  pub head_is : q.head ≡ slice_get (row_left m q) (q.left - 1)
 
--- the consequences of each fact of the list are cut at the bound
-abbrev pub DescendsAt : Meaning → List ℕ → ℕ → List ℕ → List ℕ → Type 0
-DescendsAt m list bound left heads = (j : ℕ) → j < length list → CutAt (m.consequences (slice_index list j)) bound (slice_index left j) (slice_index heads j)
+-- the codes that are still to come, of one cursor after another
+abbrev pub to_come : Meaning → List Cursor → List ℕ
+to_come m = flat_map (row_left m)
 
--- the largest of the first n heads that are left
-abbrev pub LargestHead : List ℕ → List ℕ → ℕ → Option ℕ → Type 0
-LargestHead left heads n None = (j : ℕ) → j < n → slice_index left j ≡ 0
-LargestHead left heads n (Some c) =
-    ((j : ℕ) × (j < n) × (0 < slice_index left j) × (slice_index heads j ≡ c))
-    × ((j : ℕ) → j < n → 0 < slice_index left j → slice_index heads j ≤ c)
+-- the largest number of a list; none where it has none
+abbrev pub Largest : List ℕ → Option ℕ → Type 0
+Largest xs None = xs ≡ []
+Largest xs (Some c) = Contains xs c × ((d : ℕ) → Contains xs d → d ≤ c)
+
+-- the numbers of a list that are below c, and those that are above it
+abbrev pub lows : ℕ → List ℕ → List ℕ
+lows c = filter (λ x. nat_lt x c)
+
+abbrev pub highs : ℕ → List ℕ → List ℕ
+highs c = filter (nat_lt c)
+
+-- the numbers of a list, each once, in ascending order
+abbrev pub row_of : List ℕ → List ℕ
+row_of [] = []
+row_of (x ∷ xs) = lows x (row_of xs) ++ x ∷ highs x (row_of xs)
+
+-- the codes that are still to come, each once, from the largest down
+abbrev pub codes_left : Meaning → List Cursor → List ℕ
+codes_left m cursors = reverse (row_of (to_come m cursors))

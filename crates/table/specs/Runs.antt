@@ -1,7 +1,7 @@
 -- Runs of calls on one table under one book, from the making on, and the law that they keep.
-use Rattle.std.specs.Prelude.{◌≡◌, ℕ, ◌+◌, ◌<◌, ◌≤◌, Bool, List, [], ◌++◌, map, length, take, drop, Some, Decides, Option, Result}
+use Rattle.std.specs.Prelude.{◌≡◌, ℕ, ◌+◌, ◌<◌, ◌≤◌, Bool, List, [], ◌++◌, map, length, take, drop, Some, IsTrue, ◌↔◌, Option, Result}
 use Rattle.std.specs.Borrow.{Bor}
-use Rattle.std.specs.List.{ContainsAt as Has, slice_get}
+use Rattle.std.specs.List.{Contains, slice_get}
 use Rattle.rows.specs.Rows.{Ascending}
 use Rattle.book.specs.Meaning.{Meaning}
 use Rattle.table.specs.Cells.{used, laid}
@@ -18,7 +18,7 @@ abbrev pub CarriedOut : Meaning → ℕ → List ℕ → Call → List ℕ → A
 CarriedOut m size old (Deliver list) new answer = (r : Result (ℕ × ℕ) Refusal) × (answer ≡ Changed r) × Delivers m size list.now old new r
 CarriedOut m size old (Withdraw list) new answer = (r : Result (ℕ × ℕ) Refusal) × (answer ≡ Changed r) × Withdraws m list.now old new r
 CarriedOut m size old CountHeld new answer = (answer ≡ Number (length old)) × (new ≡ old)
-CarriedOut m size old (IsHeld c) new answer = ((r : Bool) × (answer ≡ Held r) × Decides r (Has old c)) × (new ≡ old)
+CarriedOut m size old (IsHeld c) new answer = ((r : Bool) × (answer ≡ Held r) × (IsTrue r ↔ Contains old c)) × (new ≡ old)
 CarriedOut m size old (NthHeld k) new answer = (answer ≡ Fact (slice_get old k)) × (new ≡ old)
 
 -- The facts that a run of calls holds, `facts i` after the first i calls, and its answers. They come from the book,
@@ -38,7 +38,7 @@ pub record LawOfRuns (m : Meaning) (calls : List Call) (answers : List Answer) (
   pub ascending : (i : ℕ) → i ≤ length calls → Ascending (facts i)
   -- the questions tell exactly these facts
   pub count_told : (i : ℕ) → slice_get calls i ≡ Some CountHeld → slice_get answers i ≡ Some (Number (length (facts i)))
-  pub is_held_told : (i c : ℕ) → slice_get calls i ≡ Some (IsHeld c) → (r : Bool) × (slice_get answers i ≡ Some (Held r)) × Decides r (Has (facts i) c)
+  pub is_held_told : (i c : ℕ) → slice_get calls i ≡ Some (IsHeld c) → (r : Bool) × (slice_get answers i ≡ Some (Held r)) × (IsTrue r ↔ Contains (facts i) c)
   pub nth_told : (i k : ℕ) → slice_get calls i ≡ Some (NthHeld k) → slice_get answers i ≡ Some (Fact (slice_get (facts i) k))
   -- each delivery and each withdrawal does what the worlds ask
   pub deliveries : (i : ℕ) (list : Bor (List ℕ)) → slice_get calls i ≡ Some (Deliver list)

@@ -1,6 +1,6 @@
 -- What deliveries and withdrawals mean by the book's worlds. A set of facts is given as a list of them.
 use Rattle.std.specs.Prelude.{◌≡◌, ℕ, true, ◌↔◌, List, is_ok, Ok, Err, Result}
-use Rattle.std.specs.List.{ContainsAt as Has}
+use Rattle.std.specs.List.{Contains}
 use Rattle.book.specs.Meaning.{Meaning, AllKnown, HoldsAll}
 use Rattle.book.specs.Lists.{NoWorldHoldsAll}
 use Rattle.table.specs.Facts.{ShortAndKnown, OnlyIn}
@@ -9,13 +9,13 @@ use Rattle.table.specs.declared.refusals.Refusal.{Refusal}
 
 -- the first set is held by the second: each of its facts is
 abbrev pub HeldBy : List ℕ → List ℕ → Type 0
-HeldBy these those = (c : ℕ) → Has these c → Has those c
+HeldBy these those = (c : ℕ) → Contains these c → Contains those c
 
 -- some world holds exactly these facts, all of them known
 pub record SomeWorldHoldsExactly (m : Meaning) (facts : List ℕ) : Type 0 where
   pub known : AllKnown m facts
   pub world : m.World
-  pub exactly : (c : ℕ) → m.known c ≡ true → (m.Holds world c ↔ Has facts c)
+  pub exactly : (c : ℕ) → m.known c ≡ true → (m.Holds world c ↔ Contains facts c)
 
 -- the answer is a refusal with this number
 abbrev pub TurnedAway : ℕ → Result (ℕ × ℕ) Refusal → Type 0
@@ -36,8 +36,8 @@ pub record DeliveryByWorlds (m : Meaning) (list old new : List ℕ) (answer : Re
 -- What the worlds ask of a withdrawal that finds the facts `old` and leaves `new`.
 pub record WithdrawalByWorlds (m : Meaning) (list old new : List ℕ) (answer : Result (ℕ × ℕ) Refusal) : Type 0 where
   -- after an accepted one no named fact is held
-  pub named_are_gone : is_ok answer ≡ true → (c : ℕ) → Has list c → Has new c → ⊥
+  pub named_are_gone : is_ok answer ≡ true → (c : ℕ) → Contains list c → Contains new c → ⊥
   -- and no new one
   pub none_is_new : is_ok answer ≡ true → HeldBy new old
   -- and every set of earlier facts is still held if some world holds it and none of the named facts
-  pub other_facts_stay : is_ok answer ≡ true → (set : List ℕ) → HeldBy set old → (w : m.World) → HoldsAll m w set → ((d : ℕ) → Has list d → m.Holds w d → ⊥) → HeldBy set new
+  pub other_facts_stay : is_ok answer ≡ true → (set : List ℕ) → HeldBy set old → (w : m.World) → HoldsAll m w set → ((d : ℕ) → Contains list d → m.Holds w d → ⊥) → HeldBy set new

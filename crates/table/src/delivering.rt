@@ -1,42 +1,20 @@
 // Deliveries.
-ghost use Rattle.std.specs.Prelude.{◌≡◌, ◌+◌, ◌*◌, ◌≤◌, length, IfOk, filter, MatchResult, OnErr};
+ghost use Rattle.std.specs.Prelude.{◌≡◌, ◌+◌, ◌*◌, ◌≤◌, ◌⊎◌, length, count_by, IfOk, OnErr, MatchResult};
+ghost use Rattle.std.specs.List.{Contains};
+ghost use Rattle.rows.specs.Rows.{RowOf, Count};
+ghost use Rattle.book.specs.Meaning.{FollowsFromOne};
 ghost use Rattle.table.specs.Cells.{used, laid};
 ghost use Rattle.table.specs.Facts.{UnknownStay};
-ghost use Rattle.table.specs.Refusals.{DeliveryRefused};
-ghost use Rattle.table.specs.Checks.{stays, TooMany, Enterable};
-ghost use Rattle.table.specs.Calls.{DeliveryAccepted, Delivers};
+ghost use Rattle.table.specs.Descent.{Comes};
+ghost use Rattle.table.specs.Checks.{stays, TooMany};
+ghost use Rattle.table.specs.Calls.{Delivers};
 ghost use Rattle.table.specs.Worlds.{DeliveryByWorlds, SomeWorldHoldsExactly};
-ghost use Rattle.table.specs.View.{cells_of, facts_of};
+ghost use Rattle.table.specs.View.{cells_of, facts_of, KeepsCells};
 
-use crate::checking::{check_clash, check_list};
-use crate::entering::coming;
-use crate::laying::{enter_all, retain};
-use crate::{CELL_LIMIT, Refusal, Table};
-use book::{Book, first_against};
-use rows::{Test, count};
-use std::mem;
-
-// Facts that clash with none of a list.
-#[derive(Drop)]
-struct Compatible<'a, 'b, B> {
-    book: &'a B,
-    list: &'b [u64],
-}
-
-impl<'a, 'b, B: Book> Test for Compatible<'a, 'b, B> {
-    ghost test = { λ t. stays (B.meaning t.book.now) t.list.now };
-
-    fn passes(&self, c: u64) -> bool {
-        clashes_with_none(self.book, self.list, c)
-    }
-}
-
-// Whether the code clashes with none of the list.
-fn clashes_with_none<B: Book>(book: &B, list: &[u64], c: u64) -> bool
-    ensures { result ≡ stays (B.meaning book.now) list.now c }
-{
-    first_against(book, list, c).is_none()
-}
+use crate::lists::Delivery;
+use crate::making::size_of;
+use crate::{Refusal, Table};
+use book::Book;
 
 impl<'a> Table<'a> {
     // Delivers the facts of the list: everything that follows from one of them is held then, and each earlier fact
@@ -45,7 +23,7 @@ impl<'a> Table<'a> {
         ensures facts { Delivers (B.meaning book.now) (used (cells_of self.old)) list.now (facts_of self.old) (facts_of self.new) result }
         ensures cells { cells_of self.new ≡ laid (facts_of self.new) (cells_of self.old) }
         ensures refusal { OnErr result (self.new ≡ self.old) }
-        ensures few { IfOk result (λ counts. counts.1 ≤ length list.now * B.most) }
+        ensures few { IfOk result (λ counts. counts.1 ≤ length list.now * B.MOST_CONSEQUENCES) }
         ensures unknown_stay { UnknownStay (B.meaning book.now) (facts_of self.old) (facts_of self.new) }
         ensures by_worlds { DeliveryByWorlds (B.meaning book.now) list.now (facts_of self.old) (facts_of self.new) result }
         ensures some_world { SomeWorldHoldsExactly (B.meaning book.now) (facts_of self.old) → SomeWorldHoldsExactly (B.meaning book.now) (facts_of self.new) }
@@ -57,63 +35,54 @@ impl<'a> Table<'a> {
     // A delivery, without what the laws and the worlds say of it.
     fn take_in<B: Book>(&mut self, book: &B, list: &[u64]) -> Result<(usize, usize), Refusal>
         ensures facts { Delivers (B.meaning book.now) (used (cells_of self.old)) list.now (facts_of self.old) (facts_of self.new) result }
-        ensures cells { cells_of self.new ≡ laid (facts_of self.new) (cells_of self.old) }
+        ensures cells { KeepsCells self.old self.new }
         ensures refusal { OnErr result (self.new ≡ self.old) }
-        ensures named { self.new.cells.ghost_name ≡ self.old.cells.ghost_name }
     {
-        let come = self.judge(book, list)?;
-        let gone = self.change(book, list, come);
+        let delivery = Delivery::of(book, list)?;
+        let come = delivery.coming(self.facts());
+        self.check_room(&delivery, come)?;
+        let gone = self.retain(|fact| delivery.spares(fact));
+        self.enter(&delivery, come);
         Ok((gone, come))
-    }
-
-    // Whether the delivery is refused, or how many facts would come.
-    fn judge<B: Book>(&self, book: &B, list: &[u64]) -> Result<usize, Refusal>
-        ensures { MatchResult result (Enterable (B.meaning book.now) list.now (facts_of self.now) (used (cells_of self.now))) (DeliveryRefused (B.meaning book.now) (used (cells_of self.now)) list.now (facts_of self.now)) }
-    {
-        check_list(book, list)?;
-        check_clash(book, list)?;
-        let come = coming(book, list, self.facts());
-        self.check_room(book, list, come)?;
-        Ok(come)
     }
 
     // The facts that stay, with `come` more, are no more than the cells in use. Where they would be so even if all
     // stayed, the book is not asked which go.
-    fn check_room<B: Book>(&self, book: &B, list: &[u64], come: usize) -> Result<(), Refusal>
+    fn check_room<B: Book>(
+        &self,
+        delivery: &Delivery<'_, '_, B>,
+        come: usize,
+    ) -> Result<(), Refusal>
         requires { come ≤ 256 * 65536 }
-        ensures { MatchResult result (λ _. length (filter (stays (B.meaning book.now) list.now) (facts_of self.now)) + come ≤ used (cells_of self.now)) (λ e. TooMany (length (filter (stays (B.meaning book.now) list.now) (facts_of self.now)) + come) (used (cells_of self.now)) e) }
+        ensures { let facts = count_by (stays (B.meaning delivery.now.list.book.now) delivery.now.list.facts.now) (facts_of self.now) + come in
+            MatchResult result (λ _. facts ≤ used (cells_of self.now)) (TooMany facts (used (cells_of self.now))) }
     {
-        let size = self.cells.len().min(CELL_LIMIT);
+        let size = size_of(self.cells);
         if self.held + come <= size {
             return Ok(());
         }
-        let facts = count(&Compatible { book, list }, self.facts()) + come;
+        let staying = self
+            .facts()
+            .iter()
+            .filter(|fact| delivery.spares(**fact))
+            .count();
+        let facts = staying + come;
         if facts > size {
             return Err(Refusal::Full(facts));
         }
         Ok(())
     }
 
-    // Takes out what clashes and enters what follows, of which `come` codes come. Answers how many facts are gone.
-    fn change<B: Book>(&mut self, book: &B, list: &[u64], come: usize) -> usize
-        requires { Enterable (B.meaning book.now) list.now (facts_of self.old) (used (cells_of self.old)) come }
-        ensures facts { DeliveryAccepted (B.meaning book.now) (used (cells_of self.old)) list.now (facts_of self.old) (facts_of self.new) result come }
-        ensures cells { cells_of self.new ≡ laid (facts_of self.new) (cells_of self.old) }
-        ensures named { self.new.cells.ghost_name ≡ self.old.cells.ghost_name }
+    // Enters what follows from the delivered facts, of which `come` are new.
+    fn enter<B: Book>(&mut self, delivery: &Delivery<'_, '_, B>, come: usize)
+        requires come { Count (Comes (B.meaning delivery.now.list.book.now) delivery.now.list.facts.now (facts_of self.old)) come }
+        requires room { length (facts_of self.old) + come ≤ used (cells_of self.old) }
+        ensures facts { RowOf (λ c. FollowsFromOne (B.meaning delivery.now.list.book.now) delivery.now.list.facts.now c ⊎ Contains (facts_of self.old) c) (facts_of self.new) }
+        ensures number { length (facts_of self.new) ≡ length (facts_of self.old) + come }
+        ensures cells { KeepsCells self.old self.new }
     {
-        let Table { cells, held } = mem::replace(
-            self,
-            Table {
-                cells: &mut [],
-                held: 0,
-            },
-        );
-        let kept = retain(&Compatible { book, list }, cells, held);
-        enter_all(book, list, cells, kept, come);
-        *self = Table {
-            cells,
-            held: kept + come,
-        };
-        held - kept
+        let held = self.held + come;
+        delivery.enter(&mut self.cells[..held], self.held);
+        self.held = held;
     }
 }

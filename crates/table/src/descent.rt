@@ -1,91 +1,94 @@
 // What follows from one of a list of facts, from the largest code down.
-ghost use Rattle.std.specs.Prelude.{◌≡◌, ◌+◌, ◌-◌, ◌^◌, ◌<◌, ◌≤◌, length, slice_index};
-ghost use Rattle.table.specs.Descent.{DescendsAt, FollowsBelow, Largest, LargestHead};
+ghost use Rattle.std.specs.Prelude.{◌≡◌, ℕ, ◌-◌, ◌<◌, ◌≤◌, length, reverse};
+ghost use Rattle.std.specs.List.{Contains, All};
+ghost use Rattle.std.specs.Iterator.{YieldsFirst, item_count};
+ghost use Rattle.rows.specs.Rows.{RowOf};
+ghost use Rattle.book.specs.Meaning.{FollowsFromOne};
+ghost use Rattle.table.specs.Descent.{row_left, to_come, codes_left, lows, IsInPlace, Largest};
 
+use crate::LIST_LIMIT;
+use crate::lists::KnownList;
+use arrayvec::ArrayVec;
 use book::Book;
 
-// For each fact of the list, how many of its consequences are still to come, and the largest of these.
+// How many consequences of a fact are still to come, and the largest of them.
+#[derive(Default, Drop)]
+struct Cursor {
+    fact: u64,
+    left: usize,
+    head: Option<u64>,
+}
+
+impl Cursor {
+    // The first `left` consequences of the fact are still to come.
+    fn before<B: Book>(book: &B, fact: u64, left: usize) -> Self
+        requires { left ≤ length ((B.meaning book.now).consequences fact) }
+        ensures place { IsInPlace (B.meaning book.now) result }
+        ensures fact { result.fact ≡ fact }
+        ensures left { result.left ≡ left }
+    {
+        let head = left
+            .checked_sub(1)
+            .and_then(|k| book.nth_following(fact, k));
+        Cursor { fact, left, head }
+    }
+
+    // Leaves `code` behind, where nothing that is still to come is above it.
+    fn pass<B: Book>(&mut self, book: &B, code: u64)
+        requires place { IsInPlace (B.meaning book.now) self.old }
+        requires largest { (c : ℕ) → Contains (row_left (B.meaning book.now) self.old) c → c ≤ code }
+        ensures place { IsInPlace (B.meaning book.now) self.new }
+        ensures row { row_left (B.meaning book.now) self.new
+            ≡ lows code (row_left (B.meaning book.now) self.old) }
+    {
+        if self.head == Some(code) {
+            *self = Cursor::before(book, self.fact, self.left - 1);
+        }
+    }
+}
+
+// A cursor for each fact of a list. It yields each code that follows from one of them once, from the largest down.
 #[derive(Drop)]
-pub(crate) struct Descent {
-    left: [usize; 256],
-    heads: [u64; 256],
+pub(crate) struct Descent<'a, B: Book> {
+    book: &'a B,
+    cursors: ArrayVec<Cursor, LIST_LIMIT>,
+    ghost in_place: { All (IsInPlace (B.meaning book.now)) cursors.items },
 }
 
-impl Descent {
-    // The descent before its first code, and the largest code that follows from one of the list: all have 64 bits.
-    pub(crate) fn start<B: Book>(book: &B, list: &[u64]) -> (Descent, Option<u64>)
-        requires { length list.now ≤ 256 }
-        ensures at { DescendsAt (B.meaning book.now) list.now (2 ^ 64) result.0.left result.0.heads }
-        ensures largest { Largest (FollowsBelow (B.meaning book.now) list.now (2 ^ 64)) result.1 }
-    {
-        let descent = Descent::above_all(book, list);
-        let largest = descent.largest_head(list.len());
-        (descent, largest)
-    }
-
-    // The largest code below `code` that follows from one of the list.
-    pub(crate) fn advance<B: Book>(&mut self, book: &B, list: &[u64], code: u64) -> Option<u64>
-        requires short { length list.now ≤ 256 }
-        requires at { DescendsAt (B.meaning book.now) list.now (code + 1) self.old.left self.old.heads }
-        ensures at { DescendsAt (B.meaning book.now) list.now code self.new.left self.new.heads }
-        ensures largest { Largest (FollowsBelow (B.meaning book.now) list.now code) result }
-    {
-        self.pass(book, list, code);
-        self.largest_head(list.len())
-    }
-
+impl<'a, B: Book> Descent<'a, B> {
     // All consequences are still to come.
-    fn above_all<B: Book>(book: &B, list: &[u64]) -> Descent
-        requires { length list.now ≤ 256 }
-        ensures { DescendsAt (B.meaning book.now) list.now (2 ^ 64) result.left result.heads }
+    pub(crate) fn over(list: &KnownList<'a, '_, B>) -> Self
+        ensures { RowOf (FollowsFromOne (B.meaning list.now.book.now) list.now.facts.now)
+            (reverse (codes_left (B.meaning result.book.now) result.cursors.items)) }
     {
-        let mut left = [0; 256];
-        let mut heads = [0; 256];
-        let n = list.len();
-        for j in 0..n {
-            let count = book.count_following(list[j]);
-            left[j] = count;
-            heads[j] = head(book, list[j], count);
+        let book = list.book;
+        let mut cursors = ArrayVec::new();
+        for fact in list.facts {
+            cursors.push(Cursor::before(book, *fact, book.count_following(*fact)));
         }
-        Descent { left, heads }
+        Descent { book, cursors }
     }
 
-    // The largest of the first `n` heads.
-    fn largest_head(&self, n: usize) -> Option<u64>
-        requires { n ≤ 256 }
-        ensures { LargestHead self.now.left self.now.heads n result }
+    // The largest code that is still to come.
+    fn largest(&self) -> Option<u64>
+        ensures { Largest (to_come (B.meaning self.now.book.now) self.now.cursors.items) result }
     {
-        let mut largest = None;
-        for j in 0..n {
-            if self.left[j] > 0 {
-                largest = Some(largest.unwrap_or(0).max(self.heads[j]));
-            }
-        }
-        largest
-    }
-
-    // Leaves `code` behind: what was still to come was at most `code`, and is below it now.
-    fn pass<B: Book>(&mut self, book: &B, list: &[u64], code: u64)
-        requires short { length list.now ≤ 256 }
-        requires at { DescendsAt (B.meaning book.now) list.now (code + 1) self.old.left self.old.heads }
-        ensures { DescendsAt (B.meaning book.now) list.now code self.new.left self.new.heads }
-    {
-        for j in 0..list.len() {
-            if self.left[j] > 0 && self.heads[j] == code {
-                let count = self.left[j] - 1;
-                self.left[j] = count;
-                self.heads[j] = head(book, list[j], count);
-            }
-        }
+        self.cursors.iter().filter_map(|cursor| cursor.head).max()
     }
 }
 
-// The largest of the first `count` consequences of the fact.
-fn head<B: Book>(book: &B, fact: u64, count: usize) -> u64
-    ensures { 0 < count → result ≡ slice_index ((B.meaning book.now).consequences fact) (count - 1) }
-{
-    if count == 0 {
-        return 0;
+impl<B: Book> Iterator for Descent<'_, B> {
+    type Item = u64;
+
+    ghost next_gives = { YieldsFirst (λ d. codes_left (B.meaning d.book.now) d.cursors.items) };
+
+    ghost remaining = { item_count (λ d. codes_left (B.meaning d.book.now) d.cursors.items) };
+
+    fn next(&mut self) -> Option<u64> {
+        let code = self.largest()?;
+        for cursor in self.cursors.iter_mut() {
+            cursor.pass(self.book, code);
+        }
+        Some(code)
     }
-    book.nth_following(fact, count - 1).unwrap_or(0)
 }

@@ -1,48 +1,41 @@
 // What a delivery brings: how many facts come, and their entry among those that stay.
 ghost use Rattle.std.specs.Prelude.{◌-◌, ◌*◌, ◌<◌, ◌≤◌, ◌⊎◌, length, take};
-ghost use Rattle.std.specs.List.{ContainsAt as Has};
+ghost use Rattle.std.specs.List.{Contains};
 ghost use Rattle.rows.specs.Rows.{Ascending, RowOf, Count};
 ghost use Rattle.book.specs.Meaning.{FollowsFromOne};
 ghost use Rattle.table.specs.Descent.{Comes};
 ghost use Rattle.table.specs.Checks.{Around, Placing};
 
 use crate::descent::Descent;
+use crate::lists::Delivery;
 use book::Book;
 use rows::find;
 
-// How many codes follow from one of the list and do not stand in the row.
-pub(crate) fn coming<B: Book>(book: &B, list: &[u64], row: &[u64]) -> usize
-    requires short { length list.now ≤ 256 }
-    requires ascends { Ascending row.now }
-    ensures number { Count (Comes (B.meaning book.now) list.now row.now) result }
-    ensures small { result ≤ 256 * 65536 }
-{
-    let (mut descent, mut next) = Descent::start(book, list);
-    let mut come = 0;
-    while let Some(code) = next {
-        if find(row, code).is_err() {
-            come += 1;
-        }
-        next = descent.advance(book, list, code);
+impl<B: Book> Delivery<'_, '_, B> {
+    // How many codes follow from one of the list and do not stand in the row.
+    pub(crate) fn coming(&self, row: &[u64]) -> usize
+        requires { Ascending row.now }
+        ensures number { Count (Comes (B.meaning self.now.list.book.now) self.now.list.facts.now row.now) result }
+        ensures small { result ≤ 256 * 65536 }
+    {
+        Descent::over(&self.list)
+            .filter(|code| find(row, *code).is_err())
+            .count()
     }
-    come
-}
 
-// Enters what follows from one of the list among the first `kept` cells. Behind them is one cell for each code that comes.
-// One pass from the back: each cell moves at most once.
-pub(crate) fn enter<B: Book>(book: &B, list: &[u64], cells: &mut [u64], kept: usize)
-    requires short { length list.now ≤ 256 }
-    requires within { kept ≤ length cells.old }
-    requires ascends { Ascending (take kept cells.old) }
-    requires room { Count (Comes (B.meaning book.now) list.now (take kept cells.old)) (length cells.old - kept) }
-    ensures { RowOf (λ c. FollowsFromOne (B.meaning book.now) list.now c ⊎ Has (take kept cells.old) c) cells.new }
-{
-    let (mut descent, mut next) = Descent::start(book, list);
-    let mut below = kept;
-    let mut top = cells.len();
-    while let Some(code) = next {
-        (below, top) = place(cells, below, top, code);
-        next = descent.advance(book, list, code);
+    // Enters what follows from one of the list among the first `kept` cells. Behind them is one cell for each code
+    // that comes. One pass from the back: each cell moves at most once.
+    pub(crate) fn enter(&self, cells: &mut [u64], kept: usize)
+        requires within { kept ≤ length cells.old }
+        requires ascends { Ascending (take kept cells.old) }
+        requires room { Count (Comes (B.meaning self.now.list.book.now) self.now.list.facts.now (take kept cells.old)) (length cells.old - kept) }
+        ensures { RowOf (λ c. FollowsFromOne (B.meaning self.now.list.book.now) self.now.list.facts.now c ⊎ Contains (take kept cells.old) c) cells.new }
+    {
+        let mut below = kept;
+        let mut top = cells.len();
+        for code in Descent::over(&self.list) {
+            (below, top) = place(cells, below, top, code);
+        }
     }
 }
 
@@ -52,10 +45,10 @@ fn place(cells: &mut [u64], below: usize, top: usize, code: u64) -> (usize, usiz
     requires within { top ≤ length cells.old }
     requires behind { below ≤ top }
     requires ascends { Ascending (take below cells.old) }
-    requires room { (Has (take below cells.old) code → ⊥) → below < top }
+    requires room { (Contains (take below cells.old) code → ⊥) → below < top }
     ensures { Placing cells.old cells.new below top code result.0 result.1 }
 {
-    let (stay, above) = around(&cells[0..below], code);
+    let (stay, above) = around(&cells[..below], code);
     let free = top - (below - above);
     cells.copy_within(above..below, free);
     cells[free - 1] = code;

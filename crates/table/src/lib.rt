@@ -5,15 +5,15 @@ ghost use Rattle.std.specs.Prelude.{◌≡◌, ◌≤◌, take};
 ghost use Rattle.rows.specs.Rows.{Ascending};
 ghost use Rattle.table.specs.Cells.{used, laid};
 
-mod checking;
 mod delivering;
 mod descent;
 mod entering;
 mod journal;
-mod laying;
+mod lists;
 mod making;
 mod questions;
 mod refusals;
+mod retaining;
 mod withdrawing;
 
 pub use journal::{Answer, Call, replay};

@@ -5,6 +5,13 @@ ghost use Rattle.table.specs.View.{cells_of, facts_of};
 
 use crate::{CELL_LIMIT, Table};
 
+// How many of the cells a table uses.
+pub(crate) fn size_of(cells: &[u64]) -> usize
+    ensures { result ≡ used cells.now }
+{
+    cells.len().min(CELL_LIMIT)
+}
+
 impl<'a> Table<'a> {
     // A table that holds nothing, over these cells: those that it uses become 0.
     pub fn over(cells: &'a mut [u64]) -> Table<'a>
@@ -12,20 +19,8 @@ impl<'a> Table<'a> {
         ensures cells { cells_of result ≡ laid [] cells.old }
         ensures named { result.cells.ghost_name ≡ cells.entry.ghost_name }
     {
-        let size = cells.len().min(CELL_LIMIT);
-        Table::cleared(cells, size)
-    }
-
-    // A table that holds nothing, over cells of which it uses the first `size`.
-    fn cleared(cells: &'a mut [u64], size: usize) -> Table<'a>
-        requires { size ≡ used cells.old }
-        ensures facts { facts_of result ≡ [] }
-        ensures cells { cells_of result ≡ laid [] cells.old }
-        ensures named { result.cells.ghost_name ≡ cells.entry.ghost_name }
-    {
-        for i in 0..size {
-            cells[i] = 0;
-        }
+        let size = size_of(cells);
+        cells[..size].fill(0);
         Table { cells, held: 0 }
     }
 }
