@@ -1,8 +1,12 @@
 // A table over the plant of places 1 under 0, 2 and 3 under 1, and 4 under 0. "Thing 9 in 2" has the code 9 * 256 + 2 = 2306.
+ghost use Rattle.std.specs.Prelude.{◌≤◌};
+
 use place_book::{Draft, PlaceBook};
+use std::array;
 use std::test::Fail;
 use table::{Answer, Call, Refusal, Table, replay};
 
+// (The crate of the other examples has it too: to share these lines would take a public function with a contract.)
 fn plant() -> Result<PlaceBook, place_book::Refusal> {
     let mut draft = Draft::new();
     draft.add(0)?;
@@ -12,22 +16,11 @@ fn plant() -> Result<PlaceBook, place_book::Refusal> {
     Ok(draft.seal())
 }
 
-// Things 0 to 256 in the plant.
-fn things() -> [u64; 257] {
-    let mut codes = [0; 257];
-    for thing in 0..257 {
-        codes[thing] = thing as u64 * 256;
-    }
-    codes
-}
-
-// 256 things in the plant, from thing `row` * 256 on.
-fn row_of_things(row: u8) -> [u64; 256] {
-    let mut codes = [0; 256];
-    for i in 0..256 {
-        codes[i] = (u64::from(row) * 256 + i as u64) * 256;
-    }
-    codes
+// `N` things in the plant, from thing `first` on.
+fn things<const N: usize>(first: u16) -> [u64; N]
+    requires { N ≤ 65536 }
+{
+    array::from_fn(|i| (u64::from(first) + i as u64) * 256)
 }
 
 #[test]
@@ -41,6 +34,7 @@ fn a_thing_is_moved(rt: HostRuntime) -> Result<(), Fail> {
     assert_eq!(rt; table.nth_held(1), Some(2305));
     assert_eq!(rt; table.nth_held(2), Some(2306));
     assert_eq!(rt; table.nth_held(3), None);
+    assert_eq!(rt; table.facts(), [2304, 2305, 2306].as_slice());
     assert_eq!(rt; table.deliver(&book, &[2307]), Ok((1, 1)));
     assert!(rt; !table.is_held(2306));
     assert!(rt;
@@ -88,7 +82,7 @@ fn at_most_256_codes(rt: HostRuntime) -> Result<(), Fail> {
     let book = plant()?;
     let mut cells = [0; 300];
     let mut table = Table::over(&mut cells);
-    let mut list = things();
+    let mut list = things::<257>(0);
     assert_eq!(rt; table.deliver(&book, &list), Err(Refusal::TooLong(257)));
     assert_eq!(rt; table.withdraw(&book, &list), Err(Refusal::TooLong(257)));
     assert_eq!(rt; table.count_held(), 0);
@@ -155,6 +149,7 @@ fn no_cells(rt: HostRuntime) -> Result<(), Fail> {
     assert_eq!(rt; table.deliver(&book, &[2306]), Err(Refusal::Full(3)));
     assert_eq!(rt; table.withdraw(&book, &[2306]), Ok((0, 0)));
     assert_eq!(rt; table.nth_held(0), None);
+    assert!(rt; table.facts().is_empty());
     Ok(())
 }
 
@@ -177,8 +172,11 @@ fn the_last_of_65536_cells(rt: HostRuntime) -> Result<(), Fail> {
     let book = Draft::new().seal();
     let mut cells = [7; 65537];
     let mut table = Table::over(&mut cells);
-    for row in 0..=255 {
-        assert_eq!(rt; table.deliver(&book, &row_of_things(row)), Ok((0, 256)));
+    for row in 0u8..=255 {
+        assert_eq!(rt;
+            table.deliver(&book, &things::<256>(u16::from(row) * 256)),
+            Ok((0, 256))
+        );
     }
     assert_eq!(rt; table.count_held(), 65536);
     assert_eq!(rt; table.nth_held(65535), Some(16776960));

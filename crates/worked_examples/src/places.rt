@@ -1,5 +1,5 @@
 // A plant with places 1 under 0, 2 and 3 under 1, and 4 under 0. "Thing 9 in 2" has the code 9 * 256 + 2 = 2306.
-use book::{Book, first_against, first_clash, first_unknown};
+use book::{Book, Consequences, first_against, first_clash, first_unknown};
 use place_book::{Draft, PlaceBook, Refusal};
 use std::test::Fail;
 
@@ -55,13 +55,22 @@ fn the_places_above_follow(rt: HostRuntime) -> Result<(), Fail> {
     assert_eq!(rt; book.nth_following(2306, 1), Some(2305));
     assert_eq!(rt; book.nth_following(2306, 2), Some(2306));
     assert_eq!(rt; book.nth_following(2306, 3), None);
+    let mut facts = Consequences::of(&book, 2306);
+    assert_eq!(rt; facts.next(), Some(2304));
+    assert_eq!(rt; facts.next(), Some(2305));
+    assert_eq!(rt; facts.next(), Some(2306));
+    assert_eq!(rt; facts.next(), None);
+    assert_eq!(rt;
+        Consequences::of(&book, 2309).next(),
+        None,
+        "no place 5 stands"
+    );
     assert!(rt; book.follows(2306, 2305));
     assert!(rt; book.follows(2306, 2306));
     assert!(rt; !book.follows(2305, 2306));
     assert!(rt; !book.follows(2306, 2049), "another thing");
     assert!(rt; book.is_within(2, 1));
     assert!(rt; !book.is_within(2, 4));
-    assert_eq!(rt; <PlaceBook as Book>::most_following(), 256);
     assert_eq!(rt; <PlaceBook as Book>::MOST_CONSEQUENCES, 256);
     Ok(())
 }
