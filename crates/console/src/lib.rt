@@ -64,6 +64,7 @@ fn listing<I: Iterator<Item = u64> + Drop>(heap: Global, facts: I) -> Result<Str
     ensures { IfOk result (λ s. (codes : List ℕ) × Drains I.next_gives facts codes × (string_bytes s ≡ listing_text codes)) }
 {
     let mut out = String::new(heap);
+    // printed at the end; an iterator is not asked how long it is
     let mut count = 0usize;
     for fact in facts {
         writeln!(out, "{fact}")?;

@@ -12,6 +12,7 @@ pub enum Open {}
 pub enum Sealed {}
 
 // Places, each by its parent. Place 0, the plant, always stands, and its own entry is not read.
+// A parent is a number, and all stand in the value itself: nothing is taken from the heap.
 #[derive(Drop)]
 pub struct Places<S> {
     pub(crate) parents: ArrayVec<u8, 256>,

@@ -1,12 +1,14 @@
 -- Rows that ascend: how they are made, and that their members fix them.
-use Rattle.std.proofs.Common.{◌≡◌, ℕ, zero, suc, ◌+◌, ◌<◌, ◌≤◌, Bool, false, List, [], ◌∷◌, ◌++◌, map, length, get_or, is_ok, Ok, Err, Decides, filter, Result, sym, refl, ap, ◌∙◌, subst, inl, inr, arith}
-use Rattle.std.specs.List.{range_with_len, Contains}
+use Rattle.std.proofs.Common.{◌≡◌, ℕ, suc, ◌<◌, ◌≤◌, Bool, false, List, [], ◌∷◌, ◌++◌, map, length, get_or, is_ok, Ok, Err, Decides, filter, Result, sym, refl, ap, ◌∙◌, subst, inl, inr, arith}
+use Rattle.std.specs.List.{range_with_len, AllPairs, Contains}
+use Rattle.std.proofs.lemmas.List.Kept.{AllPairs-cons, AllPairs-filter}
+use Rattle.std.proofs.lemmas.List.Quantifiers.{all_pairs_push}
 use Rattle.std.proofs.lemmas.List.FromFn.{length-range_with_len, get_or-range_with_len}
-use Rattle.std.proofs.lemmas.List.Elements.{Contains-get_or, Contains-append_left, Contains-append_cases}
-use Rattle.std.proofs.lemmas.List.{length-map, length_push, get_or-map, get_or_default, get_or_push, get_or_append_left}
-use Rattle.std.proofs.lemmas.Bool.{both_ways, cases_Bool, cases_lt}
+use Rattle.std.proofs.lemmas.List.Elements.{All-from_get_or, Contains-get_or, Contains-append_left, Contains-append_cases}
+use Rattle.std.proofs.lemmas.List.{length-map, get_or-map, get_or_default}
+use Rattle.std.proofs.lemmas.Bool.{both_ways, cases_lt}
 use Rattle.rows.specs.Rows.{Ascending, Placed}
-use Rattle.rows.proofs.Members.{has_none, has_head, has_tail, has_cases, kept_has}
+use Rattle.rows.proofs.Members.{has_none, has_head, has_tail, has_cases}
 
 -- what stands no further back is no larger
 pub ascending_up : (xs : List ℕ) → Ascending xs → (i j : ℕ) → i ≤ j → j < length xs → get_or xs i 0 ≤ get_or xs j 0
@@ -18,11 +20,13 @@ ascending_up xs up i j h k = elim (cases_lt i j) [
 pub ascending_none : Ascending []
 ascending_none i j h k = absurd (omega arith)
 
+-- what ascends, said with any default, as the library's lemmas do
+pairs : (xs : List ℕ) → Ascending xs → AllPairs (λ x y. x < y) xs
+pairs xs up i j d h k = omega (arith, up i j h k, get_or_default xs i 0 d (omega arith), get_or_default xs j 0 d k)
+
 pub ascending_cons : (x : ℕ) (xs : List ℕ) → Ascending xs → ((c : ℕ) → Contains xs c → x < c) → Ascending (x ∷ xs)
-ascending_cons x xs up above zero zero h k = absurd (omega arith)
-ascending_cons x xs up above zero (suc j) h k = above (get_or xs j 0) (Contains-get_or xs j 0 (omega arith))
-ascending_cons x xs up above (suc i) zero h k = absurd (omega arith)
-ascending_cons x xs up above (suc i) (suc j) h k = up i j (omega arith) (omega arith)
+ascending_cons x xs up above i j =
+    AllPairs-cons (λ a b. a < b) x xs (All-from_get_or (λ c. x < c) xs 0 (λ k lt. above (get_or xs k 0) (Contains-get_or xs k 0 lt))) (pairs xs up) i j 0
 
 pub ascending_tail : (x : ℕ) (xs : List ℕ) → Ascending (x ∷ xs) → Ascending xs
 ascending_tail x xs up i j h k = up (suc i) (suc j) (omega arith) (omega arith)
@@ -48,11 +52,7 @@ ascending_back [] ys up = up
 ascending_back (x ∷ xs) ys up = ascending_back xs ys (ascending_tail x (xs ++ ys) up)
 
 pub ascending_kept : (p : ℕ → Bool) (xs : List ℕ) → Ascending xs → Ascending (filter p xs)
-ascending_kept p [] up = up
-ascending_kept p (x ∷ xs) up = elim (cases_Bool (p x)) [
-  | inl t ↦ rw t (ascending_cons x (filter p xs) (ascending_kept p xs (ascending_tail x xs up)) (λ c h. ascending_head x xs up c (kept_has p xs c h).0))
-  | inr f ↦ rw f (ascending_kept p xs (ascending_tail x xs up))
-]
+ascending_kept p xs up i j = AllPairs-filter (λ a b. a < b) p xs (pairs xs up) i j 0
 
 pub ascending_counting : (a n : ℕ) → Ascending (range_with_len a n)
 ascending_counting a n i j h k =
@@ -66,15 +66,7 @@ ascending_map f rises xs up i j h k =
 
 -- a larger number at the end
 pub ascending_push : (xs : List ℕ) (y : ℕ) → Ascending xs → ((c : ℕ) → Contains xs c → c < y) → Ascending (xs ++ (y ∷ []))
-ascending_push xs y up below i j h k =
-    let m : length (xs ++ (y ∷ [])) ≡ length xs + 1 = length_push xs y in
-    let hi : i < length xs = omega arith in
-    let ei : get_or (xs ++ (y ∷ [])) i 0 ≡ get_or xs i 0 = get_or_append_left xs (y ∷ []) 0 i hi in
-    elim (cases_lt j (length xs)) [
-      | inl lt ↦ omega (arith, ei, get_or_append_left xs (y ∷ []) 0 j lt, up i j h lt)
-      | inr ge ↦ let e : length xs ≡ j = omega arith in
-          omega (arith, ei, get_or_push xs y 0 j e, below (get_or xs i 0) (Contains-get_or xs i 0 hi))
-    ]
+ascending_push xs y up below i j = all_pairs_push (λ a b. a < b) xs y (pairs xs up) (λ k d lt. below (get_or xs k d) (Contains-get_or xs k d lt)) i j 0
 
 -- rows that ascend and have the same members are the same
 pub same_rows : (xs ys : List ℕ) → Ascending xs → Ascending ys → ((c : ℕ) → Contains xs c → Contains ys c) → ((c : ℕ) → Contains ys c → Contains xs c) → xs ≡ ys

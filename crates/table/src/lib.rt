@@ -27,6 +27,7 @@ const CELL_LIMIT: usize = 65536;
 
 // A table over cells that its maker lends. It uses all of them up to the first 65,536. Its facts stand in the
 // first cells in ascending order, the other cells in use hold 0, and the rest is never written.
+// The cells are the maker's slice, so how many hold facts stands beside it.
 #[derive(Drop)]
 pub struct Table<'a> {
     cells: &'a mut [u64],
