@@ -4,7 +4,7 @@ use Rattle.std.specs.List.{Contains, count_by}
 use Rattle.std.proofs.lemmas.List.Sums.{length-filter}
 use Rattle.std.proofs.lemmas.Bool.{both_ways, false_from_ne_true}
 use Rattle.rows.specs.Rows.{Ascending, RowOf, Count}
-use Rattle.rows.proofs.Properties.{row_of_both}
+use Rattle.table.proofs.Descents.{row_of_both}
 use Rattle.book.specs.Meaning.{Meaning, Lawful, FollowsFromOne, NothingClashes}
 use Rattle.book.proofs.Peace.{causes_clash}
 use Rattle.table.specs.Facts.{ClashesWithNone, AfterDelivery, UnknownStay, ShortAndKnown}

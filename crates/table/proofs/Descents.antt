@@ -1,16 +1,18 @@
 -- How a descent takes the largest code that is still to come.
-use Rattle.std.proofs.Common.{◌≡◌, ℕ, suc, ◌-◌, ◌<◌, ◌≤◌, ltb, max, List, [], ◌∷◌, ◌++◌, length, take, drop, get_or, reverse, Some, None, Option, fold, sym, refl, ap, ◌∙◌, subst, inl, inr, arith}
-use Rattle.std.specs.List.{Contains, All, flat_map, filter_map, cons_option, reduce, slice_get}
+use Rattle.std.proofs.Common.{◌≡◌, ℕ, suc, ◌+◌, ◌-◌, ◌⊎◌, Bool, not, eqb, filter, ◌<◌, ◌≤◌, ltb, max, List, [], ◌∷◌, ◌++◌, length, take, drop, get_or, reverse, Some, None, Option, fold, sym, refl, ap, ◌∙◌, subst, inl, inr, arith}
+use Rattle.std.specs.List.{Contains, All, flat_map, filter_map, cons_option, reduce, slice_get, list_any}
 use Rattle.std.proofs.lemmas.List.Elements.{Contains-append_left, Contains-append_right, Contains-append_cases, Contains-get_or, All-head, All-tail, filter-append}
 use Rattle.std.proofs.lemmas.List.{append-nil, get_or_default, reverse-append, reverse-reverse, length_push, length-take-le, take-append-drop, take-take, take_at}
 use Rattle.std.proofs.lemmas.Option.{slice_get-get_or}
-use Rattle.std.proofs.lemmas.Bool.{cases_lt}
+use Rattle.std.proofs.lemmas.Bool.{cases_lt, both_ways, not-true, not_from_false, false_from_ne_true}
+use Rattle.std.proofs.lemmas.List.Filters.{length-filter_both}
 use Rattle.rows.specs.Rows.{Ascending, RowOf}
-use Rattle.rows.proofs.Ascents.{ascending_up, ascending_none, ascending_cons, ascending_append, ascending_front, same_rows}
-use Rattle.rows.proofs.Members.{has_none, has_head, has_tail, has_cases}
+use Rattle.rows.proofs.Ascents.{ascending_up, ascending_none, ascending_cons, ascending_append, ascending_front, ascending_kept, same_rows}
+use Rattle.rows.proofs.Members.{has_none, has_head, has_tail, has_cases, kept_has, has_kept}
 use Rattle.book.specs.Meaning.{Meaning, Lawful, FollowsFromOne}
 use Rattle.table.specs.Descent.{row_left, to_come, IsInPlace, Largest, lows, highs, row_of, codes_left}
 use Rattle.table.specs.declared.descent.Cursor.{Cursor}
+use Rattle.table.proofs.Tests.{has_tells}
 use Rattle.table.proofs.Few.{has_flat_map, flat_map_has}
 use Rattle.table.proofs.Cuts.{low_is, high_is, is_low, cut_cases, lows_ascend, highs_ascend, all_low, largest_last}
 
@@ -37,6 +39,27 @@ row_of_is (x ∷ xs) =
         ],
       );
     }
+
+-- two rows that share no number, as one
+pub row_of_both : (xs ys : List ℕ) → Ascending xs → Ascending ys → ((c : ℕ) → Contains xs c → Contains ys c → ⊥) → (zs : List ℕ) × RowOf (λ c. Contains xs c ⊎ Contains ys c) zs × (length zs ≡ length xs + length ys)
+row_of_both xs ys up vp apart =
+    let zs = row_of (xs ++ ys) in
+    let r = row_of_is (xs ++ ys) in
+    let p : ℕ → Bool = λ c. list_any (eqb c) xs in
+    let q : ℕ → Bool = λ c. not (p c) in
+    let from : (c : ℕ) → Contains zs c → Contains xs c ⊎ Contains ys c = λ c h. Contains-append_cases xs ys c ((r.members c).0 h) in
+    let of_xs : (c : ℕ) → Contains xs c → Contains zs c = λ c h. (r.members c).1 (Contains-append_left xs ys c h) in
+    let of_ys : (c : ℕ) → Contains ys c → Contains zs c = λ c h. (r.members c).1 (Contains-append_right xs ys c h) in
+    let first : filter p zs ≡ xs = same_rows (filter p zs) xs (ascending_kept p zs r.ascends) up
+    (λ c h. (has_tells c xs).0 (kept_has p zs c h).1)
+    (λ c h. has_kept p zs c (of_xs c h) ((has_tells c xs).1 h)) in
+    let second : filter q zs ≡ ys = same_rows (filter q zs) ys (ascending_kept q zs r.ascends) vp
+    (λ c h. let k = kept_has q zs c h in elim (from c k.0) [ inl a ↦ absurd (both_ways (p c) (not-true (p c) k.1) ((has_tells c xs).1 a)) | inr b ↦ b ])
+    (λ c h. has_kept q zs c (of_ys c h) (not_from_false (p c) (false_from_ne_true (p c) (λ e. apart c ((has_tells c xs).0 e) h)))) in (
+      zs,
+      record { ascends = r.ascends; members = λ c. (from c, λ h. elim h [ inl a ↦ of_xs c a | inr b ↦ of_ys c b ]) },
+      omega (arith, length-filter_both p q (λ _. refl) zs, ap length first, ap length second),
+    )
 
 -- of a row, what is below c is the row of what is below c
 lows-row_of : (c : ℕ) (xs : List ℕ) → lows c (row_of xs) ≡ row_of (lows c xs)
