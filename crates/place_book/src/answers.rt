@@ -62,7 +62,11 @@ impl Book for PlaceBook {
         ensures worlds { TellsFollows (place_meaning (parents_of self.now)) cause fact result }
     {
         let (below, above) = (Fact::from(cause), Fact::from(fact));
-        self.knows(cause) && below.thing == above.thing && self.is_within(below.place, above.place)
+        // most questions are of two things, so that is asked first
+        if below.thing != above.thing {
+            return false;
+        }
+        self.is_within(below.place, above.place) && self.knows(cause)
     }
 
     // One thing, in two places of which neither lies within the other.
@@ -72,11 +76,14 @@ impl Book for PlaceBook {
         ensures worlds { TellsClash (place_meaning (parents_of self.now)) first second result }
     {
         let (one, other) = (Fact::from(first), Fact::from(second));
-        self.knows(first)
-            && self.knows(second)
-            && one.thing == other.thing
-            && !self.is_within(one.place, other.place)
+        // most questions are of two things, so that is asked first
+        if one.thing != other.thing {
+            return false;
+        }
+        !self.is_within(one.place, other.place)
             && !self.is_within(other.place, one.place)
+            && self.knows(first)
+            && self.knows(second)
     }
 
     fn count_following(&self, fact: u64) -> usize

@@ -36,7 +36,9 @@ impl Iterator for Climb<'_> {
 
     fn next(&mut self) -> Option<usize> {
         let place = self.at?;
-        self.at = self.book.parent(place);
+        // the place stands, so no test of the index is needed; the plant's own entry is not used
+        let above = usize::from(self.book.parents.as_slice()[place]);
+        self.at = (place > 0).then_some(above);
         Some(place)
     }
 }
