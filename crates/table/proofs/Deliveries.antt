@@ -130,3 +130,7 @@ module _ (m : Meaning) (most : ℕ) (law : Lawful m most) (list old : List ℕ) 
           count.2,
         );
       }
+
+-- the number that came, as it is answered
+pub so_many_come : {m : Meaning} {size : ℕ} {list old new : List ℕ} {gone come n : ℕ} → DeliveryAccepted m size list old new gone come → come ≡ n → DeliveryAccepted m size list old new gone n
+so_many_come {m} {size} {list} {old} {new} {gone} a e = subst (DeliveryAccepted m size list old new gone) e a

@@ -79,6 +79,19 @@ pub fn replay<'a, B: Book>(
     ensures replayed { Replayed (B.meaning book.now) cells.old (cells_of result) (facts_of result) calls.now answers.old answers.new }
     ensures named { result.cells.ghost_name ≡ cells.entry.ghost_name }
 {
+    replay_all(book, cells, calls, answers)
+}
+
+// The making, and then call after call.
+fn replay_all<'a, B: Book>(
+    book: &B,
+    cells: &'a mut [u64],
+    calls: &[Call<'_>],
+    answers: &mut [Option<Answer>],
+) -> Table<'a>
+    ensures replayed { Replayed (B.meaning book.now) cells.old (cells_of result) (facts_of result) calls.now answers.old answers.new }
+    ensures named { result.cells.ghost_name ≡ cells.entry.ghost_name }
+{
     let mut table = Table::over(cells);
     for (i, call) in calls.iter().enumerate() {
         let answer = table.carry_out(book, *call);

@@ -5,7 +5,7 @@ use Rattle.std.proofs.lemmas.Result.{err_from_is_err_and}
 use Rattle.table.specs.Checks.{stays}
 use Rattle.table.specs.View.{facts_of}
 use Rattle.table.proofs.Cells.{same_used, keeps_on}
-use Rattle.table.proofs.Deliveries.{refused_full, comes_to_staying, delivered}
+use Rattle.table.proofs.Deliveries.{refused_full, comes_to_staying, delivered, so_many_come}
 use Rattle.table.proofs.Table.take_in.Goals as goal
 
 pub returns-in_err-check_room-clause-facts : goal.returns-in_err-check_room-clause-facts
@@ -39,8 +39,8 @@ returns-clause-facts g c =
     let d = c.in_ok-delivery.delivery in
     let same = c.in_ok-delivery.ensures.same in
     rw (← same.0, ← same.1)
-    (delivered _ _ (g.met.B.Book.lawful d.list.book.now) _ _ d.peace c.args.self.now.ascends _ _ _ _ _ (record { short = d.list.short; known = d.list.known }) (rw c.facts.ensures.held at c.coming-come.ensures.number) c.in_ok-check_room.ensures
-    (filter_same _ (stays (g.B.Book.meaning d.list.book.now) d.list.facts.now) _ (λ x b f' k. search rules) _ _ c.retain-gone.ensures.stay) c.retain-gone.ensures.gone c.enter.ensures.facts c.enter.ensures.number)
+    (so_many_come (delivered _ _ (g.met.B.Book.lawful d.list.book.now) _ _ d.peace c.args.self.now.ascends _ _ _ _ _ (record { short = d.list.short; known = d.list.known }) (rw c.facts.ensures.held at c.coming-come.ensures.number) c.in_ok-check_room.ensures
+    (filter_same _ (stays (g.B.Book.meaning d.list.book.now) d.list.facts.now) _ (λ x b f' k. search rules) _ _ c.retain-gone.ensures.stay) c.retain-gone.ensures.gone c.enter.ensures.facts c.enter.ensures.number) (omega arith))
 
 pub returns-clause-cells : goal.returns-clause-cells
 returns-clause-cells g c = keeps_on _ _ c.retain-gone.ensures.cells (omega arith) _ c.enter.ensures.cells

@@ -1,4 +1,4 @@
-use Rattle.std.proofs.Common.{refl, sym, ap, ◌∙◌, length}
+use Rattle.std.proofs.Common.{arith, refl, sym, ap, ◌∙◌, length}
 use Rattle.std.proofs.lemmas.Iterator.Consumers.{YieldsList-from_first, count_from_yields_List}
 use Rattle.place_book.specs.View.{parents_of}
 use Rattle.place_book.specs.Meaning.{consequences}
@@ -12,5 +12,5 @@ returns-in-Some c =
     let fact = c.args.fact in
     let parts = c.in-Some.ensures in
     let count = count_from_yields_List c.climb.result c.count.result c.count.ensures.ran (YieldsList-from_first (λ at. at) (λ s. s) c.climb.result refl) in
-    let listed = count ∙ ap length (c.climb.ensures.stands parts.1) ∙ sym (count_climbed ps b.smaller b.few fact c.in-Some.field-0-0 c.in-Some.place parts) in
-    record { listed = listed; above = (consequences ps fact, consequences_list ps b.smaller fact, listed) }
+    let long = count ∙ ap length (c.climb.ensures.stands parts.1) ∙ sym (count_climbed ps b.smaller b.few fact c.in-Some.field-0-0 c.in-Some.place parts) in
+    record { listed = omega (arith, long); above = (consequences ps fact, consequences_list ps b.smaller fact, omega (arith, long)) }

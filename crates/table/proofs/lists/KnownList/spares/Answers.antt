@@ -1,4 +1,4 @@
-use Rattle.std.proofs.Common.{not, ap, rules}
+use Rattle.std.proofs.Common.{rules}
 use Rattle.std.proofs.lemmas.Iterator.{YieldsList-from_slice}
 use Rattle.std.proofs.lemmas.Iterator.Search.{any_from_yields_List}
 use Rattle.table.specs.Checks.{leads}
@@ -9,4 +9,5 @@ pub returns : goal.returns
 returns g c =
     let l = c.args.self.now in
     let m = g.B.Book.meaning l.book.now in
-    ap not (any_from_yields_List (leads m c.args.fact) _ _ _ c.any.ensures.ran (YieldsList-from_slice l.facts.now cc) (λ x b q k. (search rules, leads_is m c.args.fact x.now b (search rules))))
+    let is = any_from_yields_List (leads m c.args.fact) _ _ _ c.any.ensures.ran (YieldsList-from_slice l.facts.now cc) (λ x b q k. (search rules, leads_is m c.args.fact x.now b (search rules))) in
+    search (rules, is)

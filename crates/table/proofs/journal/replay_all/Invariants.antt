@@ -1,7 +1,7 @@
 use Rattle.std.proofs.Common.{◌≡◌}
 use Rattle.table.specs.View.{cells_of, facts_of}
 use Rattle.table.proofs.Journals.{Replaying}
-use Rattle.table.proofs.journal.replay.Given as goal
+use Rattle.table.proofs.journal.replay_all.Given as goal
 
 -- the calls so far are carried out on the table that was made, whose cells keep their name
 abbrev pub invariant-loop-i : goal.invariant-loop-i

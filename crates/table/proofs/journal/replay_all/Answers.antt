@@ -1,8 +1,8 @@
 use Rattle.std.proofs.Common.{refl, ◌∙◌, inl, inr, arith}
 use Rattle.std.proofs.lemmas.List.{get_or_default}
 use Rattle.table.proofs.Journals.{replaying_start, replaying_more, replayed}
-use Rattle.table.proofs.journal.replay.Goals as goal
-use Rattle.table.proofs.journal.replay.Goals.{then-i-answers, else-i-answers}
+use Rattle.table.proofs.journal.replay_all.Goals as goal
+use Rattle.table.proofs.journal.replay_all.Goals.{then-i-answers, else-i-answers}
 
 pub loop-i-init : goal.loop-i-init
 loop-i-init g c = (replaying_start _ c.args.cells.now _ _ _ _ c.over-table.ensures.facts c.over-table.ensures.cells, refl)
