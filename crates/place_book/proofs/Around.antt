@@ -1,12 +1,11 @@
 -- The places in which a place lies: one more at the end for each step down.
 use Rattle.std.specs.Prelude.{◌≡◌, ℕ, ◌<◌, ◌≤◌, List, [], ◌∷◌, ◌++◌, length, slice_index, Some, None, Option, ◌↔◌, IsTrue, ◌==◌, nat_le, zero, suc, refl, false}
-use Rattle.std.proofs.Common.{eqb, ltb, sym, subst, inl, inr, arith}
+use Rattle.std.proofs.Common.{eqb, sym, subst, inl, inr, arith}
 use Rattle.std.specs.List.{find, Contains}
-use Rattle.std.specs.Bool.{then_some}
 use Rattle.std.specs.Option.{option_eq}
 use Rattle.std.proofs.lemmas.List.Elements.{Contains-append_left, Contains-push, Contains-push_cases}
 use Rattle.std.proofs.lemmas.List.{reverse-append}
-use Rattle.std.proofs.lemmas.Bool.{cases_eq, cases_lt, both_ways, le-leb, lt-leb, lt-ltb, le-ltb}
+use Rattle.std.proofs.lemmas.Bool.{cases_eq, cases_lt, both_ways, le-leb, lt-leb}
 use Rattle.std.proofs.lemmas.Bool.Decides.{Decides-like, Decides-eqb}
 use Rattle.rows.proofs.Members.{has_head, has_one, has_none}
 use Rattle.rows.proofs.Ascents.{ascending_none, ascending_cons, ascending_push, same_rows}
@@ -42,13 +41,6 @@ module _ (ps : List ℕ) (smaller : ParentsAreSmaller ps) where
   pub climb_on : (p : ℕ) (q : Option ℕ) → p < length ps → ParentOf ps p q → climb_from ps (Some p) ≡ p ∷ climb_from ps q
   climb_on p None k none = let e : p ≡ 0 = elim none [ inl z ↦ z | inr past ↦ omega arith ] in rw (e, around_plant (omega arith)) refl
   climb_on p (Some q) k up = rw (up.2, around_below p up.0 k) (reverse-append (places_around ps (slice_index ps p)) (p ∷ []))
-
-  -- the place's own entry is its parent, unless it is the plant
-  pub parent_if : (p above : ℕ) → p < length ps → above ≡ slice_index ps p → ParentOf ps p (then_some (ltb 0 p) above)
-  parent_if p above k is = elim (cases_lt 0 p) [
-    | inl h ↦ rw (lt-ltb 0 p h) (h, k, is, omega (arith, is, smaller p h k))
-    | inr z ↦ rw (le-ltb 0 p z) (inl (omega arith))
-  ]
 
   parent_of : (p : ℕ) → p < length ps → (q : Option ℕ) × ParentOf ps p q
   parent_of p k = elim (cases_lt 0 p) [ inl h ↦ (Some (slice_index ps p), (h, k, refl, smaller p h k)) | inr z ↦ (None, inl (omega arith)) ]

@@ -37,7 +37,15 @@ impl PlaceBook {
     pub fn is_within(&self, place: usize, outer: usize) -> bool
         ensures { IsTrue result ↔ ((place < length (parents_of self.now)) × Within (parents_of self.now) place outer) }
     {
-        self.climb(place).find(|at| *at <= outer) == Some(outer)
+        if place >= self.place_count() {
+            return false;
+        }
+        let mut at = place;
+        // (a loop: `find` over `climb` takes up to twice the time where the climb is short)
+        while at > outer {
+            at = usize::from(self.parents.as_slice()[at]);
+        }
+        at == outer
     }
 }
 

@@ -36,9 +36,12 @@ impl Iterator for Climb<'_> {
 
     fn next(&mut self) -> Option<usize> {
         let place = self.at?;
-        // the place stands, so no test of the index is needed; the plant's own entry is not used
-        let above = usize::from(self.book.parents.as_slice()[place]);
-        self.at = (place > 0).then_some(above);
+        self.at = if place > 0 {
+            // the place stands, so no test of the index is needed
+            Some(usize::from(self.book.parents.as_slice()[place]))
+        } else {
+            None
+        };
         Some(place)
     }
 }

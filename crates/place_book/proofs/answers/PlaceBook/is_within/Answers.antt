@@ -1,17 +1,23 @@
-use Rattle.std.proofs.Common.{rules, tests, nat_le, eqb, refl, sym, ap, ◌∙◌, Some}
-use Rattle.std.specs.Option.{option_eq}
-use Rattle.std.proofs.lemmas.Bool.Decides.{Decides-at}
-use Rattle.std.proofs.lemmas.Iterator.Adapters.{option_map_id}
-use Rattle.std.proofs.lemmas.Iterator.Consumers.{YieldsList-from_first}
-use Rattle.std.proofs.lemmas.Iterator.Search.{find_from_yields_List}
+use Rattle.std.proofs.Common.{◌≡◌, ◌<◌, ap, ◌∙◌, arith, length}
+use Rattle.std.specs.Prelude.{slice_index}
+use Rattle.std.proofs.lemmas.Bool.Decides.{Decides-like}
 use Rattle.place_book.specs.View.{parents_of}
-use Rattle.place_book.proofs.Around.{found_tells}
+use Rattle.place_book.proofs.Climbing.{climb_step, climb_end}
 use Rattle.place_book.proofs.answers.PlaceBook.is_within.Goals as goal
+
+pub loop-at-preserved : goal.loop-at-preserved
+loop-at-preserved c =
+    let b = c.args.self.now in
+    let ps = parents_of b in
+    let at = c.loop-at.at in
+    let inv = c.loop-at.invariant in
+    let is : c.from-at.result ≡ slice_index ps at = c.from-at.ensures ∙ ap (λ l. slice_index l at) c.as_slice.ensures.value in
+    let step = climb_step ps b.smaller at c.from-at.result c.args.outer is (omega (arith, c.loop-at-test.true)) inv.0 in
+    (omega (arith, is, inv.0, b.smaller at (omega (arith, c.loop-at-test.true)) inv.0), ((λ u. inv.1.0 (step.0 u)), λ u. step.1 (inv.1.1 u)))
 
 pub returns : goal.returns
 returns c =
     let b = c.args.self.now in
-    let outer = c.args.outer in
-    let found = find_from_yields_List (λ at. nat_le at outer) _ _ c.find.result c.find.ensures.ran (YieldsList-from_first (λ at. at) (λ s. s) c.climb.result refl) (λ x r q k. search (rules, tests)) in
-    let told = found_tells (parents_of b) b.smaller c.args.place outer c.climb.result c.climb.ensures.stands c.climb.ensures.missing in
-    Decides-at c.eq.result _ (c.eq.ensures ∙ ap (λ o. option_eq eqb o (Some outer)) (sym (option_map_id c.find.result) ∙ found)) told
+    let inv = c.loop-at.invariant in
+    let stands : c.args.place < length (parents_of b) = omega (arith, c.if-place-place_count.false, c.place_count.ensures.number) in
+    Decides-like _ (λ u. (stands, inv.1.0 u)) (λ w. inv.1.1 w.1) (climb_end (parents_of b) b.smaller c.loop-at.at c.args.outer (omega (arith, c.loop-at-test.false)))
