@@ -1,5 +1,5 @@
--- What follows of places one step up, of climbs and of what is read of them. The check asks for none of these now; they
--- are for whoever proves something about the places of a book by steps.
+-- What follows of places one step up, of climbs and of what is read of them. The loop of `is_within` asks for
+-- `climb_step` and `climb_end`; the others are for whoever proves something about the places of a book by steps.
 use Rattle.std.specs.Prelude.{◌≡◌, ℕ, ◌+◌, ◌<◌, ◌≤◌, ◌↔◌, Bool, true, List, [], ◌∷◌, ◌++◌, length, take, Some, IsTrue, ◌==◌, slice_index, refl}
 use Rattle.std.proofs.Common.{sym, ap, subst, ◌∙◌, inl, inr, arith}
 use Rattle.std.specs.List.{slice_get, Contains}
