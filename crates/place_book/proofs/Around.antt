@@ -1,15 +1,13 @@
 -- The places in which a place lies: one more at the end for each step down.
-use Rattle.std.specs.Prelude.{◌≡◌, ℕ, ◌<◌, ◌≤◌, List, [], ◌∷◌, ◌++◌, length, slice_index, Some, None, Option, ◌↔◌, IsTrue, ◌==◌, nat_le, zero, suc, refl, false}
-use Rattle.std.proofs.Common.{eqb, sym, subst, inl, inr, arith}
-use Rattle.std.specs.List.{find, Contains}
-use Rattle.std.specs.Option.{option_eq}
+use Rattle.std.specs.Prelude.{◌≡◌, ℕ, ◌<◌, List, [], ◌∷◌, ◌++◌, length, slice_index, Some, None, Option, refl}
+use Rattle.std.proofs.Common.{sym, subst, inl, inr, arith}
+use Rattle.std.specs.List.{Contains}
 use Rattle.std.proofs.lemmas.List.Elements.{Contains-append_left, Contains-push, Contains-push_cases}
 use Rattle.std.proofs.lemmas.List.{reverse-append}
-use Rattle.std.proofs.lemmas.Bool.{cases_eq, cases_lt, both_ways, le-leb, lt-leb}
-use Rattle.std.proofs.lemmas.Bool.Decides.{Decides-like, Decides-eqb}
+use Rattle.std.proofs.lemmas.Bool.{cases_eq}
 use Rattle.rows.proofs.Members.{has_head, has_one, has_none}
 use Rattle.rows.proofs.Ascents.{ascending_none, ascending_cons, ascending_push, same_rows}
-use Rattle.place_book.specs.Places.{ParentsAreSmaller, ParentOf, Within}
+use Rattle.place_book.specs.Places.{ParentsAreSmaller, ParentOf}
 use Rattle.place_book.specs.Places.Within.{itself, parent}
 use Rattle.place_book.specs.Meaning.{places_around}
 use Rattle.place_book.specs.Climbs.{climb_from}
@@ -41,33 +39,3 @@ module _ (ps : List ℕ) (smaller : ParentsAreSmaller ps) where
   pub climb_on : (p : ℕ) (q : Option ℕ) → p < length ps → ParentOf ps p q → climb_from ps (Some p) ≡ p ∷ climb_from ps q
   climb_on p None k none = let e : p ≡ 0 = elim none [ inl z ↦ z | inr past ↦ omega arith ] in rw (e, around_plant (omega arith)) refl
   climb_on p (Some q) k up = rw (up.2, around_below p up.0 k) (reverse-append (places_around ps (slice_index ps p)) (p ∷ []))
-
-  parent_of : (p : ℕ) → p < length ps → (q : Option ℕ) × ParentOf ps p q
-  parent_of p k = elim (cases_lt 0 p) [ inl h ↦ (Some (slice_index ps p), (h, k, refl, smaller p h k)) | inr z ↦ (None, inl (omega arith)) ]
-
-  -- the first place of a climb that is not larger than q is q itself exactly where the climb begins within q
-  abbrev Finds : ℕ → ℕ → Type 0
-  Finds p q = IsTrue (option_eq eqb (find (λ at. nat_le at q) (climb_from ps (Some p))) (Some q)) ↔ Within ps p q
-
-  found_here : (p q : ℕ) → p ≤ q → p < length ps → Finds p q
-  found_here p q le k =
-      let up = parent_of p k in
-      rw (climb_on p up.0 k up.1, le-leb p q le) (Decides-like (p == q) (λ e. subst (Within ps p) e itself) (λ u. omega (arith, within_le ps smaller u)) (Decides-eqb p q))
-
-  found_from : (n p q : ℕ) → p ≤ n → p < length ps → Finds p q
-  found_from zero p q le k = found_here p q (omega arith) k
-  found_from (suc n) p q le k = elim (cases_lt q p) [
-    | inl lt ↦
-        let h : 0 < p = omega arith in
-        let up = smaller p h k in
-        let above = found_from n (slice_index ps p) q (omega arith) (omega arith) in
-        rw (climb_on p (Some (slice_index ps p)) k (h, k, refl, up), lt-leb p q lt) (Decides-like _ (λ u. parent h k u) (λ u. within_up ps smaller u lt) above)
-    | inr ge ↦ found_here p q ge k
-  ]
-
-  pub found_tells : (p q : ℕ) (l : List ℕ) → (p < length ps → l ≡ climb_from ps (Some p)) → (length ps ≤ p → l ≡ [])
-      → IsTrue (option_eq eqb (find (λ at. nat_le at q) l) (Some q)) ↔ ((p < length ps) × Within ps p q)
-  found_tells p q l stands missing = elim (cases_lt p (length ps)) [
-    | inl k ↦ rw (stands k) (Decides-like _ (λ u. (k, u)) (λ w. w.1) (found_from p p q (omega arith) k))
-    | inr past ↦ rw (missing past) ((λ e. absurd (both_ways false refl e)), λ w. absurd (omega (arith, w.0)))
-  ]
